@@ -1,0 +1,24 @@
+use mathlib.Core.Path.{refl}
+use native.Mathlib.Omega.{arith}
+use borrow.Author.Needs.{needs}
+use Rattle.books.proofs.Laid.{grown-ascends, grown-slots, grown-end}
+use Rattle.books.proofs.stored.Adjacency.grow.Needs as need
+
+pub ghost-self : need.ghost-self
+ghost-self c =
+    let self = c .args .self .now in
+    ((omega arith, omega arith), (grown-ascends (self .n) (self .starts) (self .ends) (omega arith) (omega arith) (self .ascends) (omega arith), tt))
+
+pub returns : need.returns
+returns c =
+    let self = c .args .self .now in
+    record {
+      answer = search needs;
+      grows = λ _.
+          record {
+            size = refl;
+            slots = grown-slots (self .n) (self .starts) (self .ends) (omega arith) (omega arith) (self .ascends);
+            none = grown-end (self .n) (self .starts) (self .ends) (omega arith) (omega arith) (self .ascends);
+          };
+      keeps = λ no. absurd (no tt);
+    }

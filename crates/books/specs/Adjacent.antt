@@ -1,0 +1,35 @@
+-- What adjacency lists mean, and what is changed by one closure or one slot more.
+use mathlib.Core.Path.{_≡_}
+use mathlib.Core.List.{List, [], _∷_, _++_}
+use Prim.Native.Nat.{ℕ, suc, _+_, _<_}
+use lib.ListN.{getD}
+use Rattle.std.specs.declared.option.Option.the-variants.{Some}
+use Rattle.books.specs.declared.stored.Adjacency.{Adjacency}
+use Rattle.books.specs.Listing.{Listing}
+use Rattle.books.specs.Tables.{listed}
+
+abbrev pub listing : Adjacency → Listing
+listing a = listed (a .n) (a .starts) (a .ends)
+
+-- how many slots there are in all
+abbrev pub filled : Adjacency → ℕ
+filled a = getD (a .starts) (a .n) 0
+
+-- one closure without slots
+pub record Bare (a : Adjacency) : Type 0 where
+  pub size : listing a .size ≡ 1
+  pub slots : (u : ℕ) → listing a .slots u ≡ []
+  pub none : filled a ≡ 0
+
+-- b has one closure more than a, without slots
+pub record Grown (a b : Adjacency) : Type 0 where
+  pub size : listing b .size ≡ listing a .size + 1
+  pub slots : (u : ℕ) → listing b .slots u ≡ listing a .slots u
+  pub none : filled b ≡ filled a
+
+-- b has one slot more than a: the last closure has it, behind its others
+pub record Pushed (v : ℕ) (a b : Adjacency) : Type 0 where
+  pub size : listing b .size ≡ listing a .size
+  pub last : (u : ℕ) → listing a .size ≡ suc u → listing b .slots u ≡ listing a .slots u ++ (Some v ∷ [])
+  pub others : (u : ℕ) → (listing a .size ≡ suc u → ⊥) → listing b .slots u ≡ listing a .slots u
+  pub one : filled b ≡ filled a + 1
