@@ -138,10 +138,13 @@ some-distance p u v d closed e =
 pub shortest : (p : Plan) (u v k : ℕ) → Closed p → Chain p u v k → (d : ℕ) × Distance p u v d
 shortest p u v k closed c =
     ⊎-elim (λ n. absurd (n .1 k (omega arith) (chain-walks closed c)))
-    (λ f. (f .0, record {
-      holds = walks-chain p (f .0) u v (f .1 .2);
-      least = λ j q. ⊎-elim (λ l. absurd (f .1 .3 j l (chain-walks closed q))) (λ m. m) (cases-lt j (f .0));
-    }))
+    (λ f. (
+      f .0,
+      record {
+        holds = walks-chain p (f .0) u v (f .1 .2);
+        least = λ j q. ⊎-elim (λ l. absurd (f .1 .3 j l (chain-walks closed q))) (λ m. m) (cases-lt j (f .0));
+      },
+    ))
     (first-tells (suc k) (λ k. walks p k u v))
 
 pub none-distance : (p : Plan) (u v : ℕ) → Closed p → 0 < p .size → distance p u v ≡ None → Reach p u v → ⊥

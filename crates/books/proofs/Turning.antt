@@ -23,10 +23,10 @@ turned-back : (p : Plan) {u v k : ℕ} → Chain (turned p) v u k → Chain p u 
 turned-back p stay = stay
 turned-back p (step l c) = further (turned-back p c) l
 
-from-turned : (p : Plan) (u v d : ℕ) → Distance (turned p) v u d → Distance p u v d
+pub from-turned : (p : Plan) (u v d : ℕ) → Distance (turned p) v u d → Distance p u v d
 from-turned p u v d s = record { holds = turned-back p (s .holds); least = λ k c. s .least k (turned-chain p c) }
 
-to-turned : (p : Plan) (u v d : ℕ) → Distance p u v d → Distance (turned p) v u d
+pub to-turned : (p : Plan) (u v d : ℕ) → Distance p u v d → Distance (turned p) v u d
 to-turned p u v d s = record { holds = turned-chain p (s .holds); least = λ k c. s .least k (turned-back p c) }
 
 module _ (p : Plan) (closed : Closed p) where

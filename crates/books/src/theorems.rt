@@ -5,5 +5,4 @@ ghost use Rattle.books.specs.Theorems.{Books-closed, Measures-right};
 pub fn measures_are_right()
     ensures measures { λ _. ⌜ Measures-right ⌝ }
     ensures books { λ _. ⌜ Books-closed ⌝ }
-{
-}
+{}

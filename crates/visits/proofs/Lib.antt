@@ -1,0 +1,6 @@
+mod Ends
+mod Looking
+mod Measuring
+mod Slots
+mod Steps
+mod Told
