@@ -18,13 +18,6 @@ impl Adjacency {
         }
     }
 
-    // The number of closures.
-    pub fn n(&self) -> u16
-        ensures { λ r. ⌜ r ≡ listing (now (self .entry)) .size ⌝ }
-    {
-        self.n
-    }
-
     // The number of slots of a closure.
     pub fn slots(&self, u: u16) -> u16
         ensures { λ r. ⌜ r ≡ length (listing (now (self .entry)) .slots u) ⌝ }

@@ -13,3 +13,12 @@ pub struct Adjacency {
     ghost few: { (1 ≤ n) × (n ≤ 1024) },
     ghost ascends: { Ascends n starts },
 }
+
+impl Adjacency {
+    // The number of closures.
+    pub fn n(&self) -> u16
+        ensures { λ r. ⌜ r ≡ now (self .entry) .n ⌝ }
+    {
+        self.n
+    }
+}
