@@ -1,0 +1,159 @@
+// Drafts: refusals, the largest log, and logs written and read again.
+use books::book::Outward;
+use books::book::TwoWay;
+use books::fault::Fault;
+use books::fault::FaultDebug;
+use books::fault::FaultPartialEq;
+use logs::draft::Draft;
+use logs::draft::fits;
+use logs::log::Log;
+use logs::slots::LogOutward;
+use logs::slots::LogTwoWay;
+use logs::span::Span;
+use logs::span::SpanDebug;
+use logs::span::SpanPartialEq;
+use logs::write::rewrite;
+use logs::write::write_and_open;
+use logs::write::write_log;
+use std::test::*;
+
+const fn span(from: u16, to: u16) -> Span {
+    Span { from, to }
+}
+
+#[test]
+fn fitting() -> Result<(), Fail> {
+    check_eq(fits(0, &[0; 12]), Err(Fault::ClosureCount))?;
+    check_eq(fits(1025, &[0; 12]), Err(Fault::ClosureCount))?;
+    check_eq(fits(2, &[0; 11]), Err(Fault::NoRoom))?;
+    check_eq(fits(2, &[0; 12]), Ok(()))
+}
+
+#[test]
+fn a_buffer_one_byte_short() -> Result<(), Fail> {
+    let mut buffer = [7; 19];
+    check_eq(write_log(2, &[span(0, 1)], &mut buffer), Err(Fault::NoRoom))?;
+    check_eq(
+        buffer,
+        [0, 0, 0, 0, 0, 0, 0, 0, 0, 0, 0, 0, 7, 7, 7, 7, 7, 7, 7],
+    )?;
+    let mut buffer = [7; 21];
+    check_eq(write_log(2, &[span(0, 1)], &mut buffer), Ok(20))?;
+    check_eq(
+        buffer,
+        [
+            2,
+            0,
+            1,
+            0,
+            1,
+            0,
+            0,
+            0,
+            0,
+            0,
+            1,
+            0,
+            0,
+            0,
+            1,
+            0,
+            0,
+            0,
+            0,
+            0,
+            7,
+        ],
+    )
+}
+
+#[test]
+fn a_draft_that_does_not_fit() -> Result<(), Fail> {
+    let mut buffer = [7; 7];
+    let mut draft = Draft::start(1, &mut buffer);
+    check_eq(draft.add(span(0, 0)), Err(Fault::NoClosure))?;
+    check_eq(draft.seal(), 0)?;
+    check_eq(buffer, [7; 7])
+}
+
+#[test]
+fn a_refused_span_changes_nothing() -> Result<(), Fail> {
+    let mut buffer = [7; 28];
+    let mut draft = Draft::start(2, &mut buffer);
+    check_eq(draft.add(span(0, 1)), Ok(()))?;
+    check_eq(draft.add(span(0, 2)), Err(Fault::NoClosure))?;
+    check_eq(draft.add(span(2, 0)), Err(Fault::NoClosure))?;
+    check_eq(draft.seal(), 20)?;
+    check_eq(
+        buffer,
+        [
+            2,
+            0,
+            1,
+            0,
+            1,
+            0,
+            0,
+            0,
+            0,
+            0,
+            1,
+            0,
+            0,
+            0,
+            1,
+            0,
+            0,
+            0,
+            0,
+            0,
+            7,
+            7,
+            7,
+            7,
+            7,
+            7,
+            7,
+            7,
+        ],
+    )
+}
+
+#[test]
+fn loops_and_parallel_spans() -> Result<(), Fail> {
+    let mut log = Log::new();
+    let mut buffer = [0; 64];
+    let spans = [span(0, 0), span(0, 1), span(0, 1), span(2, 0)];
+    check_eq(write_and_open(&mut log, 3, &spans, &mut buffer), Ok(48))?;
+    check_eq(log.n(), 3)?;
+    check_eq(log.m(), 4)?;
+    check_eq(log.out_slots(0), 3)?;
+    check_eq(log.out_slot(0, 0), Some(1))?;
+    check_eq(log.out_slot(0, 1), Some(1))?;
+    check_eq(log.out_slot(0, 2), Some(0))?;
+    check_eq(log.in_slots(0), 2)?;
+    check_eq(log.in_slot(0, 0), Some(2))?;
+    check_eq(log.in_slot(0, 1), Some(0))?;
+    check_eq(rewrite(&log, &mut [0; 47]), Err(Fault::NoRoom))?;
+    let mut afresh = [0; 64];
+    check_eq(rewrite(&log, &mut afresh), Ok(48))?;
+    check_eq(afresh, buffer)
+}
+
+#[test]
+fn the_largest_log() -> Result<(), Fail> {
+    let mut buffer = [0; 36868];
+    let mut draft = Draft::start(1024, &mut buffer);
+    for k in 0..4096u16 {
+        check_eq(draft.add(span(k % 1024, k / 4)), Ok(()))?;
+    }
+    check_eq(draft.add(span(0, 0)), Err(Fault::NoRoom))?;
+    check_eq(draft.seal(), 36868)?;
+    let mut log = Log::new();
+    check(log.open(&buffer).is_ok())?;
+    check_eq(log.n(), 1024)?;
+    check_eq(log.m(), 4096)?;
+    check_eq(log.record(4096), Some(span(1023, 1023)))?;
+    check_eq(log.out_slots(5), 4)?;
+    check_eq(log.out_slot(5, 0), Some(769))
+}

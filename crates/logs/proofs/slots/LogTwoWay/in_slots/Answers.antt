@@ -1,0 +1,7 @@
+use mathlib.Core.Path.{ap, _∙_}
+use lib.ListN.{length}
+use Rattle.logs.proofs.Showing.{same-tells}
+use Rattle.logs.proofs.slots.LogTwoWay.in_slots.Needs as need
+
+pub returns : need.returns
+returns c = c .slots .ensures ∙ ap length (same-tells _ _ (c .args .self .now .arrives (c .args .v)))
