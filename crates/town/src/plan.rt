@@ -2,13 +2,13 @@
 use logs::span::Span;
 
 // Closure 0 is the head end, 1 to 8 the main ring, 9 to 31 the branches, 32 a standby feed.
-pub const CLOSURES: u16 = 33;
+pub(crate) const CLOSURES: u16 = 33;
 
 const fn span(from: u16, to: u16) -> Span {
     Span { from, to }
 }
 
-pub fn spans() -> [Span; 47] {
+pub(crate) fn spans() -> [Span; 47] {
     [
         // the head end feeds the ring at two closures, and hears from one
         span(0, 1),
