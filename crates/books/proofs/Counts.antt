@@ -5,7 +5,7 @@ use mathlib.Core.Bool.{true, false, cond}
 use Prim.Native.Nat.{ℕ, zero, suc, _+_, _<_, _≤_, suc-le-suc}
 use native.Mathlib.Omega.{arith}
 use lib.ListN.{length, getD, set, replicate, length-set}
-use lib.Dec.{eqb, eqb-refl}
+use lib.Dec.{eqb}
 use lib.Seq.{getD-set-other}
 use Rattle.std.proofs.shelf.Tests.{eq-eqb, ne-eqb, cond-both}
 use Rattle.books.specs.Counts.{others}

@@ -1,5 +1,5 @@
 -- The depths and the diameter are the greatest distances, and the radius is the least out-depth of a site.
-use mathlib.Core.Path.{_≡_, refl, sym, ap, subst, _∙_}
+use mathlib.Core.Path.{_≡_, refl, sym, ap, subst}
 use mathlib.Core.Bool.{Bool, true, false, _&&_}
 use mathlib.Core.Logic.{_⊎_, inl, inr, ⊎-elim}
 use Prim.Native.Nat.{ℕ, zero, suc, _<_, _≤_, max}
@@ -8,7 +8,7 @@ use lib.Dec.{T, eqb, eqb→eq, eqb-refl}
 use Rattle.std.proofs.shelf.Tests.{cases-eq, cases-lt}
 use Rattle.std.specs.declared.option.Option.{Option}
 use Rattle.std.specs.declared.option.Option.the-variants.{Some, None}
-use Rattle.books.specs.Plan.{Plan, Closed, Chain, Distance, Out-depth, Diameter, Radius}
+use Rattle.books.specs.Plan.{Plan, Closed, Distance, Out-depth, Diameter, Radius}
 use Rattle.books.specs.Plan.Chain.{stay}
 use Rattle.books.specs.Measures.{any, greatest, distance, reaches, far, out-depth, diameter, radius}
 use Rattle.books.proofs.Distances.{chain-inside, distance-below, some-distance, distance-some}

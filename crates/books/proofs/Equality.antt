@@ -1,13 +1,12 @@
 -- The test of equality finds equal plans.
-use mathlib.Core.Path.{_≡_, refl, sym, ap, subst, _∙_}
-use mathlib.Core.Bool.{Bool, true, false, not, _&&_}
-use mathlib.Core.Logic.{⊎-elim}
-use Prim.Native.Nat.{ℕ, _<_, _≤_}
+use mathlib.Core.Path.{_≡_, refl, sym, subst}
+use mathlib.Core.Bool.{Bool, true, false, not}
+use Prim.Native.Nat.{ℕ, _<_}
 use native.Mathlib.Omega.{arith}
 use lib.Dec.{T, eqb, eqb→eq, eqb-refl}
 use Rattle.books.specs.Plan.{Plan, Closed, Same}
 use Rattle.books.specs.Measures.{any, equal}
-use Rattle.books.proofs.Truth.{and-both, and-parts, any-from, from-any, cases-T, not-from, not-parts, same-test}
+use Rattle.books.proofs.Truth.{and-both, and-parts, any-from, from-any, not-from, not-parts, same-test}
 
 differ : Bool → Bool → Bool
 differ a b = elim a [ true ↦ not b | false ↦ b ]

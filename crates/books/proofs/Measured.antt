@@ -1,13 +1,13 @@
 -- The computed measures are what the words of chains say.
-use mathlib.Core.Path.{_≡_, subst}
+use mathlib.Core.Path.{subst}
 use mathlib.Core.Logic.{⊎-elim}
-use Prim.Native.Nat.{ℕ, _<_, _≤_}
+use Prim.Native.Nat.{ℕ}
 use native.Mathlib.Omega.{arith}
 use lib.Dec.{T}
 use Rattle.std.proofs.shelf.Tests.{cases-lt}
-use Rattle.books.specs.Plan.{Plan, Closed}
+use Rattle.books.specs.Plan.{Closed}
 use Rattle.books.specs.Listing.{Listing, Sound, plan, holds}
-use Rattle.books.specs.Theorems.{Measured, Measures-right, Books-closed}
+use Rattle.books.specs.Theorems.{Measures-right, Books-closed}
 use Rattle.books.proofs.Distances.{distance-some, some-distance, distance-none, none-distance}
 use Rattle.books.proofs.Depths.{out-depth-right, diameter-right, radius-right, radius-only, no-radius-right, no-radius-only}
 use Rattle.books.proofs.Equality.{equal-same, same-equal}

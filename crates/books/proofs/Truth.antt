@@ -39,10 +39,6 @@ pub not-parts : (x : Bool) → T (not x) → T x → ⊥
 not-parts true n t = n
 not-parts false n t = t
 
-pub cases-T : (b : Bool) → T b ⊎ (T b → ⊥)
-cases-T true = inl tt
-cases-T false = inr (λ t. t)
-
 pub same-test : (x y : Bool) → (T x → T y) → (T y → T x) → x ≡ y
 same-test true true f g = refl
 same-test true false f g = elim (f tt) [ ]

@@ -7,37 +7,28 @@ use Rattle.std.specs.declared.result.Result.the-variants.{Ok, Err}
 use Rattle.books.specs.declared.fault.Fault.{Fault}
 use Rattle.books.specs.declared.fault.Fault.the-variants.{ShortLog, ClosureCount, RecordCount, LogLength, WordRange, ForeignLink, LostRecord, NoRoom, NoClosure, LateMark, NoSite, VisitedBefore, NotReady, BrokenRows}
 
+-- the number of a refusal, and its place; a refusal that is about no byte has the place 0
+abbrev pub coded : Fault → ℕ × ℕ
+coded ShortLog = (1, 0)
+coded ClosureCount = (2, 0)
+coded RecordCount = (3, 0)
+coded LogLength = (4, 0)
+coded (WordRange place) = (5, place)
+coded (ForeignLink place) = (6, place)
+coded (LostRecord place) = (7, place)
+coded NoRoom = (8, 0)
+coded NoClosure = (9, 0)
+coded LateMark = (10, 0)
+coded NoSite = (11, 0)
+coded VisitedBefore = (12, 0)
+coded NotReady = (13, 0)
+coded BrokenRows = (14, 0)
+
 abbrev pub numbered : Fault → ℕ
-numbered ShortLog = 1
-numbered ClosureCount = 2
-numbered RecordCount = 3
-numbered LogLength = 4
-numbered (WordRange p) = 5
-numbered (ForeignLink p) = 6
-numbered (LostRecord p) = 7
-numbered NoRoom = 8
-numbered NoClosure = 9
-numbered LateMark = 10
-numbered NoSite = 11
-numbered VisitedBefore = 12
-numbered NotReady = 13
-numbered BrokenRows = 14
+numbered fault = coded fault .0
 
 abbrev pub placed : Fault → ℕ
-placed ShortLog = 0
-placed ClosureCount = 0
-placed RecordCount = 0
-placed LogLength = 0
-placed (WordRange p) = p
-placed (ForeignLink p) = p
-placed (LostRecord p) = p
-placed NoRoom = 0
-placed NoClosure = 0
-placed LateMark = 0
-placed NoSite = 0
-placed VisitedBefore = 0
-placed NotReady = 0
-placed BrokenRows = 0
+placed fault = coded fault .1
 
 -- the refusal of a result, and nothing where it is an Ok
 abbrev pub told : {X : Type 0} → Result X Fault → Option Fault

@@ -5,7 +5,7 @@ use mathlib.Core.Logic.{_↔_}
 use Prim.Native.Nat.{ℕ, _<_}
 use lib.Dec.{T}
 use Rattle.std.specs.declared.option.Option.the-variants.{Some, None}
-use Rattle.books.specs.Plan.{Plan, Closed, Same, Chain, Reach, Distance, Out-depth, In-depth, Diameter, Radius}
+use Rattle.books.specs.Plan.{Plan, Closed, Same, Reach, Distance, Out-depth, In-depth, Diameter, Radius}
 use Rattle.books.specs.Listing.{Listing, Sound, plan}
 use Rattle.books.specs.Measures.{distance, out-depth, in-depth, diameter, radius, equal}
 

@@ -1,5 +1,5 @@
 -- How a visit begins, how it passes from one closure to the next, and what it has when it ends.
-use mathlib.Core.Path.{_≡_, refl, sym, ap, subst, _∙_}
+use mathlib.Core.Path.{_≡_, sym, ap, subst, _∙_}
 use mathlib.Core.List.{map}
 use mathlib.Core.Logic.{⊎-elim}
 use Prim.Native.Nat.{ℕ, suc, _+_, _-_, _<_, _≤_}
@@ -59,9 +59,6 @@ module _ (p : Plan) (start : ℕ) (in′ : start < p .size) (few : p .size ≤ 1
 
   start-far : far (opened start) start ≡ 0
   start-far = getD-set-same (replicate 1024 65535) start 0 0 wide
-
-  start-place : place (opened start) 0 ≡ start
-  start-place = refl
 
   other-far : (v : ℕ) → v < 1024 → (v ≡ start → ⊥) → far (opened start) v ≡ 65535
   other-far v l ne = getD-set-other (replicate 1024 65535) start v 0 0 ne ∙ getD-replicate 1024 v 65535 0 l

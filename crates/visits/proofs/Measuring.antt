@@ -1,5 +1,5 @@
 -- How the measures of a plan grow with each closure that is visited.
-use mathlib.Core.Path.{_≡_, refl, sym, ap, subst, _∙_}
+use mathlib.Core.Path.{_≡_, sym, subst, _∙_}
 use mathlib.Core.List.{List}
 use mathlib.Core.Logic.{⊎-elim}
 use Prim.Native.Nat.{ℕ, _+_, _<_, _≤_}
@@ -22,7 +22,7 @@ use Rattle.books.proofs.Distances.{chain-inside, distance-below}
 use Rattle.books.proofs.Truth.{first-some, none-first}
 use Rattle.visits.specs.declared.figures.Figures.{Figures}
 use Rattle.visits.specs.declared.visit.Visit.{Visit}
-use Rattle.visits.specs.Figured.{Figured, Longest, Sofar}
+use Rattle.visits.specs.Figured.{Figured, Sofar}
 use Rattle.visits.specs.Visited.{Tells, approached, visited}
 
 zero-at : (a u : ℕ) → getD {A = ℕ} (replicate a 0) u 0 ≡ 0

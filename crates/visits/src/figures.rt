@@ -1,6 +1,5 @@
 // The measures of a whole plan, by a visit of every closure both ways.
-ghost use mathlib.Core.Path.{_≡_};
-ghost use Prim.Native.Nat.{ℕ, _+_, _<_, _≤_};
+ghost use Prim.Native.Nat.{_+_, _<_, _≤_};
 ghost use Rattle.books.specs.Listing.{plan};
 ghost use Rattle.books.specs.Plan.{Closed, Distance, Plan};
 ghost use Rattle.visits.specs.Figured.{Figured, Sofar};

@@ -1,18 +1,16 @@
 -- The verdicts of the worked logs.
-use mathlib.Core.Path.{_≡_, refl}
-use mathlib.Core.Bool.{Bool, not}
+use mathlib.Core.Path.{refl}
+use mathlib.Core.Bool.{not}
 use mathlib.Core.List.{List}
 use mathlib.Core.Logic.{⊎-elim}
-use Prim.Native.Nat.{ℕ, zero, suc, _+_, _*_, _<_, _≤_}
+use Prim.Native.Nat.{ℕ, _+_, _*_}
 use native.Mathlib.Omega.{arith}
 use lib.Dec.{T, leb, le→leb}
-use lib.ListN.{length}
 use Rattle.std.proofs.shelf.Tests.{cases-lt}
-use Rattle.std.specs.declared.option.Option.the-variants.{None}
 use Rattle.books.specs.Measures.{any}
 use Rattle.books.proofs.Truth.{any-from, not-parts}
-use Rattle.logs.specs.declared.side.Side.the-variants.{Leaving, Arriving}
-use Rattle.logs.specs.Opening.{Chain, Chains, Outside, Ranged, Refused, Strayed, bound, headed, end, link, more, none, here, leaving, range, foreign, lost}
+use Rattle.logs.specs.declared.side.Side.the-variants.{Leaving}
+use Rattle.logs.specs.Opening.{Chains, Ranged, Refused, bound, end, link, more, none, here, leaving, range, foreign, lost}
 use Rattle.logs.specs.Words.{word}
 use Rattle.logs.proofs.Missing.{missing}
 use Rattle.worked.specs.Worked.{one-span, unmet}
