@@ -8,10 +8,10 @@ use lib.Dec.{T, eqb, eqb→eq, eqb-refl}
 use Rattle.std.proofs.shelf.Tests.{cases-eq, cases-lt}
 use Rattle.std.specs.declared.option.Option.{Option}
 use Rattle.std.specs.declared.option.Option.the-variants.{Some, None}
-use Rattle.books.specs.Plan.{Plan, Closed, Distance, Out-depth, Diameter, Radius}
+use Rattle.books.specs.Plan.{Plan, Closed, Reach, Distance, Out-depth, Diameter, Radius}
 use Rattle.books.specs.Plan.Chain.{stay}
 use Rattle.books.specs.Measures.{any, greatest, distance, reaches, far, out-depth, diameter, radius}
-use Rattle.books.proofs.Distances.{chain-inside, distance-below, some-distance, distance-some}
+use Rattle.books.proofs.Distances.{chain-inside, distance-below, some-distance, distance-some, shortest}
 use Rattle.books.proofs.Truth.{and-both, and-parts, any-from, from-any, first-is, first-none, first-some, none-first}
 
 -- ---- the greatest of some numbers
@@ -60,6 +60,12 @@ module _ (p : Plan) (closed : Closed p) (some : 0 < p .size) where
   unfolding reaches
   distance-reaches u v d s =
       subst (λ (o : Option ℕ). T (elim o [ Some d ↦ true | None ↦ false ])) (sym (distance-some p u v d closed some s)) tt
+
+  pub reach-right : (u v : ℕ) → T (reaches p u v) → Reach p u v
+  reach-right u v t = (far p u v, reaches-distance p u v closed t .holds)
+
+  pub reach-only : (u v : ℕ) → Reach p u v → T (reaches p u v)
+  reach-only u v r = let s = shortest p u v (r .0) closed (r .1) in distance-reaches u v (s .0) (s .1)
 
   far-is : (u v d : ℕ) → Distance p u v d → far p u v ≡ d
   far-is u v d s = distance-only (reaches-distance p u v closed (distance-reaches u v d s)) s

@@ -15,7 +15,7 @@ use Rattle.std.proofs.shelf.Parts.{between-is}
 use Rattle.std.proofs.shelf.Tests.{cases-eq, cases-lt, cond-true, cond-false, lt-ltb, le-ltb}
 use Rattle.books.specs.Listing.{slot}
 use Rattle.books.specs.declared.stored.Adjacency.{Adjacency}
-use Rattle.books.specs.Adjacent.{Bare}
+use Rattle.books.specs.Adjacent.{Bare, filled, listing, slots-below}
 use Rattle.books.specs.Tables.{Ascends, listed}
 
 listed-at : (n u : ℕ) (starts ends : List ℕ) → u < n → listed n starts ends .slots u ≡ map Some (between (getD starts u 0) (getD starts (suc u) 0) ends)
@@ -51,6 +51,23 @@ pick-is n u k starts ends h l f =
     ∙ slot-some part k (omega arith)
     ∙ ap Some (getD-between ends (getD starts u 0) (getD starts (suc u) 0) k 0 (omega arith))
 
+-- the slots of the first closures end where the next one's begin
+filled-to : (n : ℕ) (starts ends : List ℕ) → length ends ≡ 4096 → 1 ≤ n → Ascends n starts → (k : ℕ) → k ≤ n → slots-below (listed n starts ends) k ≡ getD starts k 0
+filled-to n starts ends room z a zero h = sym (a 0 (omega arith) .0)
+filled-to n starts ends room z a (suc k) h =
+    let below = filled-to n starts ends room z a k (omega arith) in
+    let b = a k (omega arith) in
+    let c = count-is n k starts ends (omega arith) (omega (arith, b .2)) in
+    omega (arith, b .1)
+
+pub filled-is : (a : Adjacency) → length (a .ends) ≡ 4096 → filled a ≡ getD (a .starts) (a .n) 0
+unfolding filled
+filled-is a room = filled-to (a .n) (a .starts) (a .ends) room (a .few .0) (a .ascends) (a .n) (omega arith)
+
+-- what becomes of the end of the slots becomes of their number
+pub filled-by : (f : ℕ → ℕ) (a b : Adjacency) → length (a .ends) ≡ 4096 → length (b .ends) ≡ 4096 → getD (b .starts) (b .n) 0 ≡ f (getD (a .starts) (a .n) 0) → filled b ≡ f (filled a)
+filled-by f a b l m e = filled-is b m ∙ e ∙ ap f (sym (filled-is a l))
+
 -- ---- no slots
 
 one-bare : (starts ends : List ℕ) → getD starts 0 0 ≡ getD starts 1 0 → (u : ℕ) → listed 1 starts ends .slots u ≡ []
@@ -64,12 +81,11 @@ one-bare starts ends e u =
     (cases-lt u 1)
 
 pub bare : (a : Adjacency) → a .n ≡ 1 → getD (a .starts) 0 0 ≡ 0 → getD (a .starts) 1 0 ≡ 0 → Bare a
+unfolding filled
 bare a one z e =
-    record {
-      size = one;
-      slots = λ u. ap (λ n. listed n (a .starts) (a .ends) .slots u) one ∙ one-bare (a .starts) (a .ends) (z ∙ sym e) u;
-      none = ap (λ n. getD (a .starts) n 0) one ∙ e;
-    }
+    let empty : (u : ℕ) → listing a .slots u ≡ [] = λ u. ap (λ n. listed n (a .starts) (a .ends) .slots u) one ∙ one-bare (a .starts) (a .ends) (z ∙ sym e) u in
+    let l = ap length (empty 0) in
+    record { size = one; slots = empty; none = ap (slots-below (listing a)) one ∙ omega arith }
 
 -- ---- one closure more
 
@@ -87,9 +103,10 @@ module _ (n : ℕ) (starts ends : List ℕ) (few : n < 1024) (long : length star
   pub grown-ascends : 1 ≤ n → Ascends (n + 1) (set starts (n + 1) (getD starts n 0))
   unfolding more
   grown-ascends some u h =
+      let z = grown-start 0 (omega arith) ∙ a 0 (omega arith) .0 in
       ⊎-elim
-      (λ (e : u ≡ n). let s : suc u ≡ n + 1 = omega arith in let i = grown-start u (omega arith) in let j = ap (λ x. getD more x 0) s ∙ grown-end in let k = ap (λ x. getD starts x 0) e in let w : suc (n - 1) ≡ n = omega arith in let b = ap (λ x. getD starts x 0) w in let l = a (n - 1) (omega arith) .1 in (omega arith, omega arith))
-      (λ (e : u ≡ n → ⊥). let i = grown-start u (omega arith) in let j = grown-start (suc u) (omega arith) in let k = a u (omega arith) in (omega (arith, k .0), omega (arith, k .1)))
+      (λ (e : u ≡ n). let s : suc u ≡ n + 1 = omega arith in let i = grown-start u (omega arith) in let j = ap (λ x. getD more x 0) s ∙ grown-end in let k = ap (λ x. getD starts x 0) e in let w : suc (n - 1) ≡ n = omega arith in let b = ap (λ x. getD starts x 0) w in let l = a (n - 1) (omega arith) .2 in (z, omega arith, omega arith))
+      (λ (e : u ≡ n → ⊥). let i = grown-start u (omega arith) in let j = grown-start (suc u) (omega arith) in let k = a u (omega arith) in (z, omega (arith, k .1), omega (arith, k .2)))
       (cases-eq u n)
 
   pub grown-slots : (u : ℕ) → listed (n + 1) (set starts (n + 1) (getD starts n 0)) ends .slots u ≡ listed n starts ends .slots u
@@ -114,7 +131,7 @@ ascends-to n starts a zero u h = let z : u + 0 ≡ u = omega arith in rw z (omeg
 ascends-to n starts a (suc d) u h =
     let z : u + suc d ≡ suc (u + d) = omega arith in
     let b = ascends-to n starts a d u (omega arith) in
-    let k = a (u + d) (omega arith) .0 in
+    let k = a (u + d) (omega arith) .1 in
     rw z (omega arith)
 
 between-unset : (xs : List ℕ) (a b i v : ℕ) → b ≤ i → between a b (set xs i v) ≡ between a b xs
@@ -141,11 +158,12 @@ module _ (n : ℕ) (starts ends : List ℕ) (v : ℕ) (some : 1 ≤ n) (few : n 
   pub pushed-ascends : Ascends n (set starts n (getD starts n 0 + 1))
   unfolding to at
   pushed-ascends u h =
+      let z = pushed-start 0 (λ e. omega arith) ∙ a 0 (omega arith) .0 in
       let i = pushed-start u (λ e. omega arith) in
       let k = a u h in
       ⊎-elim
-      (λ (e : suc u ≡ n). let j = ap (λ x. getD to x 0) e ∙ pushed-end in let l = before u (omega arith) in (omega arith, omega arith))
-      (λ (e : suc u ≡ n → ⊥). let j = pushed-start (suc u) e in (omega (arith, k .0), omega (arith, k .1)))
+      (λ (e : suc u ≡ n). let j = ap (λ x. getD to x 0) e ∙ pushed-end in let l = before u (omega arith) in (z, omega arith, omega arith))
+      (λ (e : suc u ≡ n → ⊥). let j = pushed-start (suc u) e in (z, omega (arith, k .1), omega (arith, k .2)))
       (cases-eq (suc u) n)
 
   pub pushed-last : (u : ℕ) → n ≡ suc u → listed n (set starts n (getD starts n 0 + 1)) (set ends (getD starts n 0) v) .slots u ≡ listed n starts ends .slots u ++ (Some v ∷ [])

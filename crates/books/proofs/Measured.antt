@@ -9,7 +9,7 @@ use Rattle.books.specs.Plan.{Closed}
 use Rattle.books.specs.Listing.{Listing, Sound, plan, holds}
 use Rattle.books.specs.Theorems.{Measures-right, Books-closed}
 use Rattle.books.proofs.Distances.{distance-some, some-distance, distance-none, none-distance}
-use Rattle.books.proofs.Depths.{out-depth-right, diameter-right, radius-right, radius-only, no-radius-right, no-radius-only}
+use Rattle.books.proofs.Depths.{out-depth-right, diameter-right, radius-right, radius-only, reach-only, reach-right, no-radius-right, no-radius-only}
 use Rattle.books.proofs.Equality.{equal-same, same-equal}
 use Rattle.books.proofs.Turning.{in-depth-right}
 
@@ -18,6 +18,7 @@ measures-right p closed some =
     record {
       distance-is = λ u v d. (some-distance p u v d closed, distance-some p u v d closed some);
       no-distance = λ u v. (none-distance p u v closed some, distance-none p u v);
+      reach-is = λ u v. (reach-right p closed some u v, reach-only p closed some u v);
       out-depth-is = out-depth-right p closed some;
       in-depth-is = in-depth-right p closed some;
       diameter-is = diameter-right p closed some;

@@ -1,8 +1,8 @@
 -- What adjacency lists mean, and what is changed by one closure or one slot more.
 use mathlib.Core.Path.{_≡_}
 use mathlib.Core.List.{[], _∷_, _++_}
-use Prim.Native.Nat.{ℕ, suc, _+_}
-use lib.ListN.{getD}
+use Prim.Native.Nat.{ℕ, zero, suc, _+_}
+use lib.ListN.{length}
 use Rattle.std.specs.declared.option.Option.the-variants.{Some}
 use Rattle.books.specs.declared.stored.Adjacency.{Adjacency}
 use Rattle.books.specs.Listing.{Listing}
@@ -11,9 +11,14 @@ use Rattle.books.specs.Tables.{listed}
 abbrev pub listing : Adjacency → Listing
 listing a = listed (a .n) (a .starts) (a .ends)
 
+-- how many slots the first closures have
+abbrev pub slots-below : Listing → ℕ → ℕ
+slots-below l zero = 0
+slots-below l (suc u) = slots-below l u + length (l .slots u)
+
 -- how many slots there are in all
-abbrev pub filled : Adjacency → ℕ
-filled a = getD (a .starts) (a .n) 0
+unfoldable pub filled : Adjacency → ℕ
+filled a = slots-below (listing a) (a .n)
 
 -- one closure without slots
 pub record Bare (a : Adjacency) : Type 0 where

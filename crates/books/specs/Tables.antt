@@ -1,4 +1,5 @@
 -- Adjacency lists in two arrays: the slots of the closure u stand in `ends` from its start to the next one's.
+use mathlib.Core.Path.{_≡_}
 use mathlib.Core.List.{List, [], map}
 use mathlib.Core.Bool.{cond}
 use Prim.Native.Nat.{ℕ, suc, _<_, _≤_}
@@ -13,6 +14,7 @@ abbrev pub listed : ℕ → List ℕ → List ℕ → Listing
 listed n starts ends =
     record { size = n; slots = λ u. cond (ltb u n) (map Some (between (getD starts u 0) (getD starts (suc u) 0) ends)) [] }
 
--- the starts never fall, and none is past the end
+-- the starts begin at 0 and never fall, and none is past the end
 abbrev pub Ascends : ℕ → List ℕ → Type 0
-Ascends n starts = (u : ℕ) → u < n → (getD starts u 0 ≤ getD starts (suc u) 0) × (getD starts (suc u) 0 ≤ 4096)
+Ascends n starts =
+    (u : ℕ) → u < n → (getD starts 0 0 ≡ 0) × (getD starts u 0 ≤ getD starts (suc u) 0) × (getD starts (suc u) 0 ≤ 4096)

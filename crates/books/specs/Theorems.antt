@@ -7,12 +7,13 @@ use lib.Dec.{T}
 use Rattle.std.specs.declared.option.Option.the-variants.{Some, None}
 use Rattle.books.specs.Plan.{Plan, Closed, Same, Reach, Distance, Out-depth, In-depth, Diameter, Radius}
 use Rattle.books.specs.Listing.{Listing, Sound, plan}
-use Rattle.books.specs.Measures.{distance, out-depth, in-depth, diameter, radius, equal}
+use Rattle.books.specs.Measures.{distance, out-depth, in-depth, diameter, radius, reaches, equal}
 
 pub record Measured (p : Plan) : Type 0 where
   -- the distance is the least length of a chain, and there is none exactly where no chain goes
   pub distance-is : (u v d : ℕ) → (distance p u v ≡ Some d) ↔ Distance p u v d
   pub no-distance : (u v : ℕ) → (distance p u v ≡ None) ↔ (Reach p u v → ⊥)
+  pub reach-is : (u v : ℕ) → T (reaches p u v) ↔ Reach p u v
   -- a depth is attained, and no distance is greater
   pub out-depth-is : (u : ℕ) → u < p .size → Out-depth p u (out-depth p u)
   pub in-depth-is : (u : ℕ) → u < p .size → In-depth p u (in-depth p u)

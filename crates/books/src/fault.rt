@@ -1,6 +1,7 @@
 // Why a call was refused.
 ghost use mathlib.Core.Path.{_≡_};
 ghost use Rattle.books.specs.Faults.{numbered, placed};
+use std::fmt;
 
 // A refusal, with the byte that it is about where it has one.
 #[derive(Clone, Copy, PartialEq, Eq, Debug)]
@@ -68,5 +69,33 @@ impl Fault {
             Fault::LostRecord { place } => place,
             _ => 0,
         }
+    }
+}
+
+// The condition of a refusal, in words.
+fn condition(fault: Fault) -> &'static str {
+    match fault {
+        Fault::ShortLog => "the log has fewer than 4 bytes",
+        Fault::ClosureCount => "the number of closures is not 1 to 1024",
+        Fault::RecordCount => "the number of records is above 4096",
+        Fault::LogLength => "the length is not 4 bytes, 4 for each closure and 8 for each record",
+        Fault::WordRange { place: _ } => {
+            "a head is above the number of records, an end is no closure, or a next record is not an earlier one"
+        }
+        Fault::ForeignLink { place: _ } => "a link leads to a record of another closure",
+        Fault::LostRecord { place: _ } => "a record is in no leaving or in no arriving chain",
+        Fault::NoRoom => "the buffer is too short, or there are more than 4096 records",
+        Fault::NoClosure => "a number is no closure of the plan",
+        Fault::LateMark => "a mark comes after a visit or a pass",
+        Fault::NoSite => "no site is marked",
+        Fault::VisitedBefore => "the closure was visited before in this direction",
+        Fault::NotReady => "the survey is not ready",
+        Fault::BrokenRows => "the rows break a rule",
+    }
+}
+
+pub impl fmt::Display for Fault as FaultDisplay {
+    fn fmt<W: fmt::Write>(&self, f: &mut fmt::Formatter<W>) -> fmt::Result {
+        f.write_str(condition(*self))
     }
 }

@@ -1,29 +1,29 @@
 // inspect PLAN.log: opens a splice log, visits every closure both ways, and prints the measures of the plan.
-mod refusal;
+mod stop;
 
 use books::book::Outward;
 use logs::log::Log;
 use logs::slots::LogOutward;
 use logs::slots::LogTwoWay;
 use logs::write::rewrite;
-use refusal::Refusal;
-use refusal::RefusalDisplay;
-use refusal::RefusalFromAllocError;
-use refusal::RefusalFromError;
-use refusal::RefusalFromFault;
 use std::env;
 use std::fs;
 use std::io;
+use stop::Stop;
+use stop::StopDisplay;
+use stop::StopFromAllocError;
+use stop::StopFromError;
+use stop::StopFromFault;
 use visits::figures::Figures;
 use visits::figures::measure;
 
 // The one argument: the path of the log.
-fn path(rt: &LibcRuntime) -> Result<String, Refusal> {
+fn only_argument(rt: &LibcRuntime) -> Result<String, Stop> {
     let mut args = env::args(rt)?;
     let _ = args.next();
     match (args.next(), args.next()) {
         (Some(path), None) => Ok(path),
-        _ => Err(Refusal::Usage),
+        _ => Err(Stop::Usage),
     }
 }
 
@@ -40,10 +40,10 @@ fn print_figures(rt: &LibcRuntime, n: u16, figures: &Figures) -> io::Result<()> 
     println!(rt, "diameter {length} from {from} to {to}")
 }
 
-fn inspect(rt: &LibcRuntime) -> Result<(), Refusal> {
-    let path = path(rt)?;
+fn inspect(rt: &LibcRuntime) -> Result<(), Stop> {
+    let path = only_argument(rt)?;
     let Ok(bytes) = fs::read(rt, path.as_str()) else {
-        return Err(Refusal::Unreadable(path));
+        return Err(Stop::Unreadable(path));
     };
     let mut log = Log::new();
     log.open(bytes.as_slice())?;
@@ -59,10 +59,10 @@ fn inspect(rt: &LibcRuntime) -> Result<(), Refusal> {
     Ok(())
 }
 
-fn main(rt: LibcRuntime) -> Result<(), Refusal> {
+fn main(rt: LibcRuntime) -> Result<(), Stop> {
     let done = inspect(&rt);
-    if let Err(refusal) = &done {
-        eprintln!(rt, "{refusal}")?;
+    if let Err(stop) = &done {
+        eprintln!(rt, "{stop}")?;
     }
     done
 }

@@ -8,7 +8,7 @@ use std::error::AnyError;
 use std::fs;
 
 // What the file was before.
-fn before(rt: &LibcRuntime, path: &str, bytes: &[u8]) -> &'static str {
+fn stood_before(rt: &LibcRuntime, path: &str, bytes: &[u8]) -> &'static str {
     let Ok(old) = fs::read(rt, path) else {
         return "new";
     };
@@ -22,7 +22,7 @@ fn before(rt: &LibcRuntime, path: &str, bytes: &[u8]) -> &'static str {
 fn run(rt: &LibcRuntime) -> Result<(), AnyError> {
     let mut args = env::args(rt)?;
     let _ = args.next();
-    let Some(path) = args.next() else {
+    let (Some(path), None) = (args.next(), args.next()) else {
         return Err("usage: town FILE".into());
     };
     let mut log = Log::new();
@@ -33,7 +33,7 @@ fn run(rt: &LibcRuntime) -> Result<(), AnyError> {
     let Some(bytes) = buffer.get(0..len) else {
         return Err("the log is longer than its buffer".into());
     };
-    let before = before(rt, path.as_str(), bytes);
+    let before = stood_before(rt, path.as_str(), bytes);
     fs::write(rt, path.as_str(), bytes)?;
     let closures = plan::CLOSURES;
     let spans = log.m();

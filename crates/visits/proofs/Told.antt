@@ -79,11 +79,11 @@ turned-plan : (l : Listing) (into : ℕ → List (Option ℕ)) → Agree (l .slo
 turned-plan l into agrees = λ i. record { size = l .size; leads = λ u v. agrees v u i }
 
 -- so a search along incoming slots answers as the in-visit
-pub in-visit-right : {limit : ℕ} (l : Listing) (into : ℕ → List (Option ℕ)) (start : ℕ) (r : Result Visit Fault) → Sound limit l → Agree (l .slots) into → r ≡ visited (plan (record { size = l .size; slots = into })) start → (r ≡ approached (plan l) start) × made r (Tells (λ v d. Distance (plan l) v start d))
+pub in-visit-right : {limit : ℕ} (l : Listing) (into : ℕ → List (Option ℕ)) (start : ℕ) (r : Result Visit Fault) → Sound limit l → Agree (l .slots) into → r ≡ visited (plan (record { size = l .size; slots = into })) start → (r ≡ approached (plan l) start) × (r ≡ visited (turned (plan l)) start) × made r (Tells (λ v d. Distance (plan l) v start d))
 in-visit-right l into start r sound agrees e =
     let closed = book-closed l sound in
     let back : r ≡ visited (turned (plan l)) start = e ∙ ap (λ (p : Plan). visited p start) (turned-plan l into agrees) in
-    (back ∙ turned-visit (plan l) closed start, in-tells (plan l) closed start (sound .some) r back)
+    (back ∙ turned-visit (plan l) closed start, back, in-tells (plan l) closed start (sound .some) r back)
 
 -- ---- the lowest number at the depth
 

@@ -4,10 +4,10 @@ use Prim.Native.Nat.{ℕ, _<_, _≤_}
 use lib.ListN.{getD, length}
 use Rattle.books.specs.Plan.{Plan, Distance, Diameter, In-depth, Out-depth}
 use Rattle.visits.specs.declared.figures.Figures.{Figures}
-use Rattle.visits.specs.declared.figures.Run.{Run}
+use Rattle.visits.specs.declared.figures.LongestRun.{LongestRun}
 
 -- a longest run: its length is the diameter, its first closure is the lowest from which a run is so long, and its last the lowest to which one is from there
-pub record Longest (p : Plan) (r : Run) : Type 0 where
+pub record Longest (p : Plan) (r : LongestRun) : Type 0 where
   pub diameter : Diameter p (r .length)
   pub apart : Distance p (r .from) (r .to) (r .length)
   pub lowest-from : (u v : ℕ) → u < r .from → Distance p u v (r .length) → ⊥

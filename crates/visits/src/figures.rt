@@ -9,9 +9,9 @@ use super::visit::in_visit;
 use super::visit::out_visit;
 use books::book::TwoWay;
 
-// A run between two closures that no other is longer than.
+// The ends and the length of a longest run so far.
 #[derive(Clone, Copy)]
-pub struct Run {
+pub struct LongestRun {
     pub length: u16,
     pub from: u16,
     pub to: u16,
@@ -22,7 +22,7 @@ pub struct Run {
 pub struct Figures {
     pub out_depths: [u16; 1024],
     pub in_depths: [u16; 1024],
-    pub longest: Run,
+    pub longest: LongestRun,
 }
 
 // No closure is measured yet.
@@ -32,7 +32,7 @@ fn blank() -> Figures
     Figures {
         out_depths: [0; 1024],
         in_depths: [0; 1024],
-        longest: Run {
+        longest: LongestRun {
             length: 0,
             from: 0,
             to: 0,
@@ -49,7 +49,7 @@ fn note(figures: &mut Figures, u: u16, out: &Visit, into: &Visit)
     figures.in_depths[u as usize] = into.depth;
     if out.depth > figures.longest.length {
         if let Some(to) = out.farthest() {
-            figures.longest = Run {
+            figures.longest = LongestRun {
                 length: out.depth,
                 from: u,
                 to,

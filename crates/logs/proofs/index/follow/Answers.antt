@@ -3,6 +3,7 @@ use Prim.Native.Nat.{suc, _-_}
 use native.Mathlib.Omega.{arith}
 use Rattle.logs.specs.Opening.{endAt}
 use Rattle.logs.proofs.Canon.{newest-few}
+use Rattle.logs.proofs.Placing.{column-few}
 use Rattle.logs.proofs.Following.{follow-end, follow-next, follow-on, follow-room, follow-start, yes-below}
 use Rattle.logs.proofs.index.follow.Needs as need
 
@@ -29,3 +30,15 @@ loop-link-again c =
 
 pub returns : need.returns
 returns c = follow-end _ _ _ _ _ _ _ _ (c .pre .laid) (c .loop-link .inv) (c .loop-link-test .left)
+
+pub word-at-far-requires : need.word-at-far-requires
+word-at-far-requires c κs =
+    omega (arith, c .end-place .ensures, column-few (c .other .result), c .loop-link .inv .few, c .pre .judged .len, c .loop-link-test .taken)
+
+pub add-end-place : need.add-end-place
+add-end-place c =
+    omega (arith, c .end-place-in-loop-link .ensures, column-few (c .args .side), c .loop-link .inv .few, c .pre .judged .short, c .pre .judged .few)
+
+pub word-at-link-requires-in-loop-link : need.word-at-link-requires-in-loop-link
+word-at-link-requires-in-loop-link c κs =
+    omega (arith, c .end-place-in-loop-link .ensures, column-few (c .args .side), c .loop-link .inv .few, c .pre .judged .len, c .loop-link-test .taken)

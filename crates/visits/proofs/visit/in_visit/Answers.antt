@@ -11,4 +11,4 @@ pub returns : need.returns
 returns g c =
     let b = c .args .book .now in
     let w = in-visit-right (g .B·Outward .outgoing b) (g .B·TwoWay .incoming b) (c .args .start) (c .visit .result) (g .B·Outward·met .sound b) (g .B·TwoWay·met .agrees b) (c .visit .ensures) in
-    record { answer = w .0; tells = w .1 }
+    record { answer = w .0; turns = w .1; tells = w .2 }

@@ -12,7 +12,7 @@ returns-then-k-end c =
     let a = self .ascends u (omega arith) in
     let e : u + 1 ≡ suc u = omega arith in
     let t = ap (λ x. getD (self .starts) x 0) e in
-    let l : getD (self .starts) (suc u) 0 ≤ length (self .ends) = omega (arith, a .1) in
+    let l : getD (self .starts) (suc u) 0 ≤ length (self .ends) = omega (arith, a .2) in
     sym (pick-past (self .n) u (c .args .k) (self .starts) (self .ends) (omega arith) l (omega arith))
 
 pub returns : need.returns
@@ -22,5 +22,5 @@ returns c =
     let a = self .ascends u (omega arith) in
     let e : u + 1 ≡ suc u = omega arith in
     let t = ap (λ x. getD (self .starts) x 0) e in
-    let l : getD (self .starts) (suc u) 0 ≤ length (self .ends) = omega (arith, a .1) in
+    let l : getD (self .starts) (suc u) 0 ≤ length (self .ends) = omega (arith, a .2) in
     sym (pick-is (self .n) u (c .args .k) (self .starts) (self .ends) (omega arith) l (omega arith))

@@ -11,5 +11,5 @@ returns c =
     let u = c .args .u in
     let a = self .ascends u (omega arith) in
     let e : u + 1 ≡ suc u = omega arith in
-    let l : getD (self .starts) (suc u) 0 ≤ length (self .ends) = omega (arith, a .1) in
+    let l : getD (self .starts) (suc u) 0 ≤ length (self .ends) = omega (arith, a .2) in
     ap (λ x. getD (self .starts) x 0 - getD (self .starts) u 0) e ∙ sym (count-is (self .n) u (self .starts) (self .ends) (omega arith) l)
