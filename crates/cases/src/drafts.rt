@@ -17,6 +17,9 @@ use logs::write::write_and_open;
 use logs::write::write_log;
 use std::test::*;
 
+// The log with 2 closures and the span 0→1.
+const ONE_SPAN: &[u8] = b"\x02\0\x01\0\x01\0\0\0\0\0\x01\0\0\0\x01\0\0\0\0\0";
+
 const fn span(from: u16, to: u16) -> Span {
     Span { from, to }
 }
@@ -34,37 +37,13 @@ fn a_buffer_one_byte_short() -> Result<(), Fail> {
     let mut buffer = [7; 19];
     check_eq(write_log(2, &[span(0, 1)], &mut buffer), Err(Fault::NoRoom))?;
     check_eq(
-        buffer,
-        [0, 0, 0, 0, 0, 0, 0, 0, 0, 0, 0, 0, 7, 7, 7, 7, 7, 7, 7],
+        &buffer[0..],
+        b"\0\0\0\0\0\0\0\0\0\0\0\0\x07\x07\x07\x07\x07\x07\x07",
     )?;
     let mut buffer = [7; 21];
     check_eq(write_log(2, &[span(0, 1)], &mut buffer), Ok(20))?;
-    check_eq(
-        buffer,
-        [
-            2,
-            0,
-            1,
-            0,
-            1,
-            0,
-            0,
-            0,
-            0,
-            0,
-            1,
-            0,
-            0,
-            0,
-            1,
-            0,
-            0,
-            0,
-            0,
-            0,
-            7,
-        ],
-    )
+    check_eq(&buffer[0..20], ONE_SPAN)?;
+    check_eq(buffer[20], 7)
 }
 
 #[test]
@@ -84,39 +63,17 @@ fn a_refused_span_changes_nothing() -> Result<(), Fail> {
     check_eq(draft.add(span(0, 2)), Err(Fault::NoClosure))?;
     check_eq(draft.add(span(2, 0)), Err(Fault::NoClosure))?;
     check_eq(draft.seal(), 20)?;
-    check_eq(
-        buffer,
-        [
-            2,
-            0,
-            1,
-            0,
-            1,
-            0,
-            0,
-            0,
-            0,
-            0,
-            1,
-            0,
-            0,
-            0,
-            1,
-            0,
-            0,
-            0,
-            0,
-            0,
-            7,
-            7,
-            7,
-            7,
-            7,
-            7,
-            7,
-            7,
-        ],
-    )
+    check_eq(&buffer[0..20], ONE_SPAN)?;
+    check_eq(&buffer[20..], &[7; 8])
+}
+
+// A number that is no closure is refused before the want of room.
+#[test]
+fn no_closure_before_no_room() -> Result<(), Fail> {
+    let mut buffer = [0; 12];
+    let mut draft = Draft::start(2, &mut buffer);
+    check_eq(draft.add(span(0, 2)), Err(Fault::NoClosure))?;
+    check_eq(draft.add(span(0, 1)), Err(Fault::NoRoom))
 }
 
 #[test]

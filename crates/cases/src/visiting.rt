@@ -18,16 +18,16 @@ const fn span(from: u16, to: u16) -> Span {
 }
 
 // The plan 0→1→2→0 and 2→3.
-fn ring() -> Log {
+fn ring() -> Result<Log, Fail> {
     let mut log = Log::new();
     let spans = [span(0, 1), span(1, 2), span(2, 0), span(2, 3)];
-    let _ = write_and_open(&mut log, 4, &spans, &mut [0; 64]);
-    log
+    check_eq(write_and_open(&mut log, 4, &spans, &mut [0; 64]), Ok(52))?;
+    Ok(log)
 }
 
 #[test]
 fn the_ring_is_visited() -> Result<(), Fail> {
-    let log = ring();
+    let log = ring()?;
     let Ok(visit) = out_visit(&log, 1) else {
         return Err(Fail::new("refused"));
     };
@@ -49,7 +49,7 @@ fn the_ring_is_visited() -> Result<(), Fail> {
 
 #[test]
 fn a_number_that_is_no_closure_is_refused() -> Result<(), Fail> {
-    let log = ring();
+    let log = ring()?;
     let Err(fault) = out_visit(&log, 4) else {
         return Err(Fail::new("visited"));
     };
@@ -62,7 +62,7 @@ fn a_number_that_is_no_closure_is_refused() -> Result<(), Fail> {
 
 #[test]
 fn the_ring_is_measured() -> Result<(), Fail> {
-    let figures = measure(&ring());
+    let figures = measure(&ring()?);
     check_eq(figures.out_depths[0], 3)?;
     check_eq(figures.out_depths[3], 0)?;
     check_eq(figures.out_depths[4], 0)?;

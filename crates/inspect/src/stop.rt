@@ -62,7 +62,10 @@ mod tests {
         let heap = rt.alloc();
         let refused = Stop::Refused(Fault::ForeignLink { place: 26 });
         let text = refused.to_string(heap)?;
-        check_eq(text.as_str(), "refused 6 26\na link leads to a record of another closure")?;
+        check_eq(
+            text.as_str(),
+            "refused 6 26\na link leads to a record of another closure",
+        )?;
         let unreadable = Stop::Unreadable(String::from_str(heap, "town.log")?);
         let text = unreadable.to_string(heap)?;
         check_eq(text.as_str(), "refused\ntown.log cannot be read")
