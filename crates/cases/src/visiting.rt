@@ -13,14 +13,15 @@ use visits::visit::FAR;
 use visits::visit::in_visit;
 use visits::visit::out_visit;
 
-const fn span(from: u16, to: u16) -> Span {
-    Span { from, to }
-}
-
 // The plan 0→1→2→0 and 2→3.
 fn ring() -> Result<Log, Fail> {
     let mut log = Log::new();
-    let spans = [span(0, 1), span(1, 2), span(2, 0), span(2, 3)];
+    let spans = [
+        Span::new(0, 1),
+        Span::new(1, 2),
+        Span::new(2, 0),
+        Span::new(2, 3),
+    ];
     check_eq(write_and_open(&mut log, 4, &spans, &mut [0; 64]), Ok(52))?;
     Ok(log)
 }
@@ -77,7 +78,7 @@ fn the_ring_is_measured() -> Result<(), Fail> {
 #[test]
 fn a_shortcut_is_taken() -> Result<(), Fail> {
     let mut log = Log::new();
-    let spans = [span(0, 2), span(1, 2), span(0, 1)];
+    let spans = [Span::new(0, 2), Span::new(1, 2), Span::new(0, 1)];
     check_eq(write_and_open(&mut log, 3, &spans, &mut [0; 64]), Ok(40))?;
     let Ok(visit) = out_visit(&log, 0) else {
         return Err(Fail::new("refused"));

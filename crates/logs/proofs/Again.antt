@@ -9,7 +9,6 @@ use lib.ListN.{length, drop, take}
 use Rattle.std.proofs.shelf.Lists.{length-append, length-reverse, reverse-append, reverse-reverse, take-at}
 use Rattle.std.proofs.shelf.Tests.{cases-lt}
 use Rattle.std.proofs.shelf.Ways.{tells}
-use Rattle.std.specs.Results.{Cases}
 use Rattle.std.specs.declared.option.Option.the-variants.{Some, None}
 use Rattle.std.specs.declared.result.Result.{Result}
 use Rattle.std.specs.declared.result.Result.the-variants.{Ok, Err}
@@ -17,10 +16,12 @@ use Rattle.books.specs.declared.fault.Fault.{Fault}
 use Rattle.books.specs.declared.fault.Fault.the-variants.{NoRoom}
 use Rattle.books.specs.Faults.{told}
 use Rattle.logs.specs.declared.span.Span.{Span}
-use Rattle.logs.specs.Drafts.{fitting, refuses}
+use Rattle.logs.specs.declared.stored.Log.{Log}
+use Rattle.logs.specs.Drafts.{Wrote, fitting, refuses}
 use Rattle.logs.specs.History.{encode, inside, size}
+use Rattle.logs.specs.Logs.{LogOf, closures, history}
 use Rattle.logs.specs.Opening.{Accepted}
-use Rattle.logs.specs.Writing.{Rewritten, Wrote, adding, left-off, writing}
+use Rattle.logs.specs.Writing.{Rewritten, Written, adding, left-off, writing}
 use Rattle.logs.proofs.Placing.{length-encode}
 use Rattle.logs.proofs.Drafting.{inside-more, inside-parts, not-none}
 use Rattle.logs.proofs.Written.{adding-on, adding-refused, fitting-answer, unfit-answer}
@@ -93,49 +94,46 @@ writing-room n len h a r =
     (cases-lt len (4 + 4 * n))
 
 -- what was answered and written, by what the answer should be
-answered-ok : (n : ℕ) (h : List Span) (before after : List ℕ) (r : Result ℕ Fault) → told r ≡ None → Cases r (λ len. Wrote n h before len after) (λ _. after ≡ left-off n (reverse h) before) → (r ≡ Ok (size n (length h))) × (after ≡ encode n h ++ drop (size n (length h)) before)
-answered-ok n h before after (Ok len) t w = (ap Ok (w .gives), w .bytes ∙ ap (λ x. encode n h ++ drop x before) (w .gives))
+answered-ok : (n : ℕ) (h : List Span) (before after : List ℕ) (r : Result ℕ Fault) → told r ≡ None → Written n (reverse h) before r after → (r ≡ Ok (size n (length h))) × (after ≡ encode n h ++ drop (size n (length h)) before)
+answered-ok n h before after (Ok len) t w =
+    let x : Wrote n h before len after = subst (λ y. Wrote n y before len after) (reverse-reverse h) (w .bytes) in
+    (ap Ok (x .gives), x .bytes ∙ ap (λ y. encode n h ++ drop y before) (x .gives))
 answered-ok n h before after (Err e) t w = absurd (not-none e t)
 
-answered-err : (n : ℕ) (h : List Span) (before after : List ℕ) (r : Result ℕ Fault) → told r ≡ Some NoRoom → Cases r (λ len. Wrote n h before len after) (λ _. after ≡ left-off n (reverse h) before) → (r ≡ Err NoRoom) × (after ≡ left-off n (reverse h) before)
+answered-err : (n : ℕ) (h : List Span) (before after : List ℕ) (r : Result ℕ Fault) → told r ≡ Some NoRoom → Written n (reverse h) before r after → (r ≡ Err NoRoom) × (after ≡ left-off n (reverse h) before)
 answered-err n h before after (Ok len) t w = absurd (not-none NoRoom (sym t))
-answered-err n h before after (Err e) t w = (cc, w)
+answered-err n h before after (Err e) t w = (cc, w .bytes)
 
-pub rewritten : (bytes : List ℕ) (n : ℕ) (h : List Span) (before after : List ℕ) (r : Result ℕ Fault) → Accepted bytes n h → told r ≡ writing n (length before) (reverse h) → Cases r (λ len. Wrote n h before len after) (λ _. after ≡ left-off n (reverse h) before) → Rewritten bytes n h before r after
-rewritten bytes n h before after r a t w =
+pub rewritten : (bytes : List ℕ) (log : Log) (before after : List ℕ) (r : Result ℕ Fault) → LogOf bytes log → Written (closures log) (reverse (history log)) before r after → Rewritten bytes log before r after
+rewritten bytes log before after r a w =
+    let n = closures log in
+    let h = history log in
     let e = a .written in
-    let own : Accepted (encode n h) n h = subst (λ x. Accepted x n h) e a in
-    let l : length bytes ≡ size n (length h) = ap length e ∙ length-encode n h in
+    let own : LogOf (encode (closures log) (history log)) log = subst (λ x. LogOf x log) e a in
+    let l : length bytes ≡ size (closures log) (length (history log)) = ap length e ∙ length-encode n h in
     record {
       written = λ i.
-          let x = answered-ok n h before after r (t ∙ writing-none n (length before) h own (omega arith)) w in
+          let x = answered-ok n h before after r (w .answer ∙ writing-none n (length before) h own (omega arith)) w in
           (x .0 ∙ ap Ok (sym l), x .1 ∙ ap (λ y. y ++ drop (size n (length h)) before) (sym e) ∙ ap (λ y. bytes ++ drop y before) (sym l));
-      refused = λ i. answered-err n h before after r (t ∙ writing-room n (length before) h own (omega arith)) w;
+      refused = λ i. answered-err n h before after r (w .answer ∙ writing-room n (length before) h own (omega arith)) w;
     }
 
--- what is answered and written of k closures and the spans of a list is that of the history
-pub of-history : (n k : ℕ) (h ss : List Span) (before after : List ℕ) (r : Result ℕ Fault) → k ≡ n → ss ≡ reverse h → told r ≡ writing k (length before) ss → Cases r (λ len. Wrote k (reverse ss) before len after) (λ _. after ≡ left-off k ss before) → (told r ≡ writing n (length before) (reverse h)) × Cases r (λ len. Wrote n h before len after) (λ _. after ≡ left-off n (reverse h) before)
-of-history n k h ss before after r q e t w =
-    let g : reverse ss ≡ h = ap reverse e ∙ reverse-reverse h in (
-      t ∙ ap (λ x. writing x (length before) ss) q ∙ ap (writing n (length before)) e,
-      subst (λ x. Cases r (λ len. Wrote n x before len after) (λ _. after ≡ left-off n (reverse h) before)) g
-          (subst (λ x. Cases r (λ len. Wrote n (reverse ss) before len after) (λ _. after ≡ left-off n x before)) e
-          (subst (λ x. Cases r (λ len. Wrote x (reverse ss) before len after) (λ _. after ≡ left-off x ss before)) q w)),
-    )
+-- what is written of k closures and the spans of a list is that of n closures and others, where these are equal
+pub written-same : (n k : ℕ) (xs ys : List Span) (before after : List ℕ) (r : Result ℕ Fault) → k ≡ n → ys ≡ xs → Written k ys before r after → Written n xs before r after
+written-same n k xs ys before after r q e w =
+    subst (λ x. Written n x before r after) e (subst (λ x. Written x ys before r after) q w)
 
 -- ---- a log that was written
 
 pub wrote-within : (n len : ℕ) (h : List Span) (before after : List ℕ) → Wrote n h before len after → len ≤ length after
 wrote-within n len h before after w =
-    let g = w .gives in
-    let l = length-encode n h in
+    let l = w .extent in
     let a = ap length (w .bytes) ∙ length-append (encode n h) (drop len before) in
     omega arith
 
 -- the front of the buffer is the log
 pub front : (n len k : ℕ) (h : List Span) (before after : List ℕ) → Wrote n h before len after → k ≡ len → Accepted (take k after) n h
 front n len k h before after w e =
-    let l = length-encode n h in
-    let g = w .gives in
+    let l = w .extent in
     let t : take k after ≡ encode n h = ap (take k) (w .bytes) ∙ take-at (encode n h) (drop len before) k (omega arith) in
     subst (λ x. Accepted x n h) (sym t) (w .log)

@@ -75,7 +75,7 @@ module _ (bytes : List ℕ) (n : ℕ) (s : Side) where
       let e : j ≡ i = omega arith in
       one-strays u (nextAt n s i) q r t (subst (λ x. Strays bytes n s u (nextAt n s x) r) e z)
 
-  chain-of : (u t v : ℕ) → Chains bytes n s u t → v < u → (js : List ℕ) × Chain bytes n s v (headAt s v) js
+  pub chain-of : (u t v : ℕ) → Chains bytes n s u t → v < u → (js : List ℕ) × Chain bytes n s v (headAt s v) js
   chain-of zero t v none h = absurd (omega arith)
   chain-of (suc u) t v (more {t = t′} {js = js} cs c) h =
       ⊎-elim

@@ -19,9 +19,9 @@ use Rattle.logs.specs.Sides.{near}
 use Rattle.logs.specs.Words.{spread, word, put}
 use Rattle.logs.specs.History.{inside, latest, heads, record-of, entries, size, encode, unsealed}
 use Rattle.logs.specs.Opening.{Accepted, headAt}
-use Rattle.logs.specs.Drafts.{Drafted, added, behind, empty, fitting, sealed, sealed-length}
+use Rattle.logs.specs.Drafts.{Drafted, Wrote, added, behind, empty, fitting, sealed, sealed-length}
 use Rattle.logs.proofs.Spread.{spread-append, put-spread}
-use Rattle.logs.proofs.Placing.{words, length-words, length-bytes, length-heads, head-word, heads-more, entries-more}
+use Rattle.logs.proofs.Placing.{words, length-words, length-bytes, length-encode, length-heads, head-word, heads-more, entries-more}
 
 pub not-none : (x : Fault) → _≡_ {A = Option Fault} (Some x) None → ⊥
 not-none x e = let z : _≡_ {A = ℕ} 0 1 = cc in omega arith
@@ -180,7 +180,14 @@ put-first : (n m : ℕ) (h : List Span) (rest : List ℕ) → m ≡ length h →
 unfolding encode
 put-first n m h rest c = ap (λ x. spread (words n x n h) ++ rest) c
 
-pub seals : (before : List ℕ) (n m len : ℕ) (h : List Span) (buffer after : List ℕ) → Drafted before n m h buffer → len ≡ sealed-length n m buffer → after ≡ sealed n m buffer → (len ≡ size n (length h)) × (after ≡ encode n h ++ drop len before)
+-- what a draft would seal is a log
+accepted : (before : List ℕ) (n m : ℕ) (h : List Span) (buffer : List ℕ) → Drafted before n m h buffer → Accepted (encode n h) n h
+accepted before n m h buffer d =
+    let c = d .count in
+    let m = d .most in
+    record { written = refl; some = d .some; few = d .few; short = omega arith; inside = d .inside }
+
+pub seals : (before : List ℕ) (n m len : ℕ) (h : List Span) (buffer after : List ℕ) → Drafted before n m h buffer → len ≡ sealed-length n m buffer → after ≡ sealed n m buffer → Wrote n h before len after
 unfolding unsealed
 seals before n m len h buffer after d e f =
     let c = d .count in
@@ -188,18 +195,15 @@ seals before n m len h buffer after d e f =
     let r = d .room in
     let s = d .some in
     let no : empty n buffer ≡ false = or-from _ _ (ne-eqb n 0 (omega arith)) (le-ltb (length buffer) 4 (omega arith)) in
-    let k : len ≡ size n (length h) = e ∙ cond-false _ 0 (size n m) no ∙ ap (size n) c in (
-      k,
-      f
+    let k : len ≡ size n (length h) = e ∙ cond-false _ 0 (size n m) no ∙ ap (size n) c in
+    record {
+      gives = k;
+      extent = length-encode n h ∙ sym k;
+      log = accepted before n m h buffer d;
+      bytes =
+          f
           ∙ cond-false _ buffer (put (put buffer 0 n) 2 m) no
           ∙ ap (λ x. put (put x 0 n) 2 m) (d .bytes)
           ∙ put-first n m h (drop (size n (length h)) before) c
-          ∙ ap (λ x. encode n h ++ drop x before) (sym k),
-    )
-
--- what a draft would seal is a log
-pub accepted : (before : List ℕ) (n m : ℕ) (h : List Span) (buffer : List ℕ) → Drafted before n m h buffer → Accepted (encode n h) n h
-accepted before n m h buffer d =
-    let c = d .count in
-    let m = d .most in
-    record { written = refl; some = d .some; few = d .few; short = omega arith; inside = d .inside }
+          ∙ ap (λ x. encode n h ++ drop x before) (sym k);
+    }

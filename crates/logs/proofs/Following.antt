@@ -19,14 +19,14 @@ use Rattle.logs.specs.Sides.{other}
 use Rattle.logs.specs.Words.{word}
 use Rattle.logs.specs.History.{newest-first}
 use Rattle.logs.specs.Laying.{Laid}
-use Rattle.logs.specs.Opening.{Judged, endAt, headAt, span-at, spans-at}
+use Rattle.logs.specs.Opening.{Judged, endAt, headAt, nextAt, span-at, spans-at}
 use Rattle.logs.proofs.Canon.{count, count-own, exact-at, newest, newest-few, newest-other, newest-own, linked, reach, reach-other, reach-own, tally, tally-all}
 
 -- ---- the records of a closure, from its newest
 
 module _ (bytes : List ℕ) (n : ℕ) (s : Side) where
   -- the newest record of a closure has its slots below it
-  reach-newest : (u k : ℕ) → reach bytes n s u (newest bytes n s u k) ≡ reach bytes n s u k
+  pub reach-newest : (u k : ℕ) → reach bytes n s u (newest bytes n s u k) ≡ reach bytes n s u k
   reach-newest u zero = refl
   reach-newest u (suc k) =
       ⊎-elim
@@ -92,11 +92,11 @@ module _ (bytes : List ℕ) (n m : ℕ) (s : Side) (u : ℕ) where
       }
 
   -- the next link
-  pub follow-next : (link j at next : ℕ) (a b : Adjacency) → Judged bytes n m → Following link a b → link ≡ suc j → at ≡ endAt n s j → next ≡ word bytes (at + 4) → next ≡ newest bytes n s u j
+  pub follow-next : (link j at next : ℕ) (a b : Adjacency) → Judged bytes n m → Following link a b → link ≡ suc j → at ≡ nextAt n s j → next ≡ word bytes at → next ≡ newest bytes n s u j
   follow-next link j at next a b y f e p w =
       let few = f .few in
       w
-      ∙ ap (λ x. word bytes (x + 4)) p
+      ∙ ap (word bytes) p
       ∙ linked bytes n s m (y .whole .ranged) (y .whole .chains s) j (omega arith)
       ∙ ap (λ x. newest bytes n s x j) (f .own j e)
 

@@ -10,6 +10,7 @@ mod Following
 mod Verdicts
 mod Back
 mod Decided
+mod Chained
 mod Showing
 mod Opened
 mod Written

@@ -12,7 +12,8 @@ use Rattle.logs.specs.declared.side.Side.the-variants.{Leaving, Arriving}
 use Rattle.logs.specs.declared.span.Span.{Span}
 use Rattle.logs.specs.History.{arriving, chosen, inside, leaving, newest-first, same}
 use Rattle.logs.specs.Laying.{Laid}
-use Rattle.logs.specs.Opening.{Accepted, Judged, spans-at}
+use Rattle.logs.specs.Opening.{Accepted, Chained, Judged, spans-at}
+use Rattle.logs.proofs.Chained.{chained}
 use Rattle.logs.proofs.Decided.{one-log}
 use Rattle.logs.proofs.Showing.{laid-slots, same-from}
 
@@ -53,3 +54,9 @@ module _ (bytes : List ℕ) (n m : ℕ) (xs : List Span) (out into : Adjacency) 
 
   pub only : (k : ℕ) (h : List Span) → Accepted bytes k h → (listing out .size ≡ k) × (newest-first xs m ≡ h)
   only k h b = one-log bytes (listing out .size) k (newest-first xs m) h accepts b
+
+  -- its slots follow the chains
+  pub follows : Chained bytes (listing out .size) (newest-first xs m)
+  follows =
+      subst (λ k. Chained bytes k (newest-first xs m)) (sym (y .leaving .size))
+      (subst (λ h. Chained bytes n h) (sym (y .history)) (chained bytes n m (y .judged .whole)))

@@ -37,7 +37,7 @@ module _ (bytes : List ℕ) (n m : ℕ) (s : Side) (u : ℕ) where
       (k .0, (k .1 .0, omega (arith, k .1 .1)))
 
   -- the place of an end is in the bytes
-  pub end-within : (place count j at : ℕ) → Walking place count → word bytes place ≡ suc j → at ≡ endAt n s j → at + 5 < size n m
+  pub end-within : (place count j at : ℕ) → Walking place count → word bytes place ≡ suc j → at ≡ endAt n s j → at + 1 < size n m
   end-within place count j at w e f =
       let h = w .falls in
       let c = column-few s in
@@ -47,19 +47,18 @@ module _ (bytes : List ℕ) (n m : ℕ) (s : Side) (u : ℕ) where
   walk-strays place count j at near w e f g foreign =
       w .strays place (here e (λ same. foreign (g ∙ ap (word bytes) f ∙ same)))
 
-  pub walk-falls : (place count j at : ℕ) → Ranged bytes n m → Walking place count → word bytes place ≡ suc j → at ≡ endAt n s j → word bytes (at + 4) < word bytes place
-  walk-falls place count j at r w e f =
+  pub walk-falls : (place count j next : ℕ) → Ranged bytes n m → Walking place count → word bytes place ≡ suc j → next ≡ nextAt n s j → word bytes next < word bytes place
+  walk-falls place count j next r w e f =
       let h = w .falls in
       let b = next-below bytes n m s j r (omega arith) in
-      let p = ap (λ x. word bytes (x + 4)) f in
+      let p = ap (word bytes) f in
       omega arith
 
-  pub walk-on : (place count j at near : ℕ) → Ranged bytes n m → Walking place count → word bytes place ≡ suc j → at ≡ endAt n s j → near ≡ word bytes at → near ≡ u → Walking (at + 4) (count + 1)
-  walk-on place count j at near r w e f g own =
+  pub walk-on : (place count j at near next : ℕ) → Ranged bytes n m → Walking place count → word bytes place ≡ suc j → at ≡ endAt n s j → near ≡ word bytes at → near ≡ u → next ≡ nextAt n s j → Walking next (count + 1)
+  walk-on place count j at near next r w e f g own p =
       let h = w .falls in
-      let l = end-within place count j at w e f in
-      let t = walk-falls place count j at r w e f in
-      let p : at + 4 ≡ nextAt n s j = ap (λ x. x + 4) f in
+      let l = column-few s in
+      let t = walk-falls place count j next r w e p in
       let o : word bytes (endAt n s j) ≡ u = ap (word bytes) (sym f) ∙ sym g ∙ own in
       record {
         within = omega arith;

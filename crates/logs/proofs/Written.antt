@@ -9,10 +9,10 @@ use Rattle.std.specs.declared.option.Option.{Option}
 use Rattle.std.specs.declared.option.Option.the-variants.{Some, None}
 use Rattle.books.specs.declared.fault.Fault.{Fault}
 use Rattle.logs.specs.declared.span.Span.{Span}
-use Rattle.logs.specs.Drafts.{Drafted, fitting, refuses}
-use Rattle.logs.specs.History.{encode, newest-first, size, unsealed}
-use Rattle.logs.specs.Writing.{Wrote, adding, left-off, taken, writing}
-use Rattle.logs.proofs.Drafting.{accepted, length-drafted}
+use Rattle.logs.specs.Drafts.{Drafted, Wrote, fitting, refuses}
+use Rattle.logs.specs.History.{newest-first, unsealed}
+use Rattle.logs.specs.Writing.{adding, left-off, taken, writing}
+use Rattle.logs.proofs.Drafting.{length-drafted}
 use Rattle.logs.proofs.Showing.{length-newest, newest-more}
 
 -- ---- one span
@@ -41,8 +41,9 @@ pub record Onward (before : List ℕ) (n : ℕ) (spans : List Span) (i m : ℕ) 
   pub answer : adding n (length before) 0 spans ≡ adding n (length before) i (drop i spans)
   pub takes : taken n (length before) 0 spans ≡ take i spans ++ taken n (length before) i (drop i spans)
 
-pub onward-none : (before : List ℕ) (n m : ℕ) (spans : List Span) (buffer : List ℕ) → Drafted before n m [] buffer → Onward before n spans 0 m buffer
-onward-none before n m spans buffer d = record { drafted = d; answer = refl; takes = refl }
+pub onward-none : (before : List ℕ) (n k m : ℕ) (spans : List Span) (buffer : List ℕ) → k ≡ n → Drafted before k m [] buffer → Onward before n spans 0 m buffer
+onward-none before n k m spans buffer q d =
+    record { drafted = subst (λ x. Drafted before x m [] buffer) q d; answer = refl; takes = refl }
 
 -- what a draft of k closures answers is what is asked of the i-th span
 asked : (before : List ℕ) (n k : ℕ) (spans : List Span) (i m : ℕ) (buffer : List ℕ) (s : Span) (o : Option Fault) → k ≡ n → Onward before n spans i m buffer → i < length spans → o ≡ refuses k m (length buffer) s → refuses n i (length before) s ≡ o
@@ -117,14 +118,9 @@ unfolding adding
 written-answer before n spans i m buffer f w h =
     sym (fitting-answer n (length before) spans (sym f) ∙ w .answer ∙ ap (adding n (length before) i) (drop-all i spans h))
 
-pub written-log : (before : List ℕ) (n k : ℕ) (spans : List Span) (i m len : ℕ) (buffer after : List ℕ) → k ≡ n → Onward before n spans i m buffer → length spans ≤ i → ((h : List Span) → Drafted before k m h buffer → (len ≡ size k (length h)) × (after ≡ encode k h ++ drop len before)) → Wrote n (reverse spans) before len after
+pub written-log : (before : List ℕ) (n k : ℕ) (spans : List Span) (i m len : ℕ) (buffer after : List ℕ) → k ≡ n → Onward before n spans i m buffer → length spans ≤ i → ((h : List Span) → Drafted before k m h buffer → Wrote k h before len after) → Wrote n (reverse spans) before len after
 written-log before n k spans i m len buffer after q w h seals =
     let g = newest-first spans i in
     let e : newest-first spans i ≡ reverse spans = ap reverse (take-all i spans h) in
     let s = seals g (subst (λ x. Drafted before x m g buffer) (sym q) (w .drafted)) in
-    subst (λ x. Wrote n x before len after) e
-    (record {
-      gives = s .0 ∙ ap (λ x. size x (length g)) q;
-      log = accepted before n m g buffer (w .drafted);
-      bytes = s .1 ∙ ap (λ x. encode x g ++ drop len before) q;
-    })
+    subst (λ x. Wrote n x before len after) e (subst (λ x. Wrote x g before len after) q s)

@@ -26,12 +26,15 @@ abbrev pub chosen : Side → ℕ → List Span → List ℕ
 chosen side u [] = []
 chosen side u (s ∷ older) = cond (eqb (near side s) u) (far side s ∷ chosen side u older) (chosen side u older)
 
--- the slots of a closure: the spans that leave it, and those that arrive at it
+-- the slots of a closure on a side: for the spans that leave it, and for those that arrive at it
+abbrev pub slots-on : Side → List Span → ℕ → List (Option ℕ)
+slots-on side h u = map Some (chosen side u h)
+
 abbrev pub leaving : List Span → ℕ → List (Option ℕ)
-leaving h u = map Some (chosen Leaving u h)
+leaving = slots-on Leaving
 
 abbrev pub arriving : List Span → ℕ → List (Option ℕ)
-arriving h v = map Some (chosen Arriving v h)
+arriving = slots-on Arriving
 
 -- whether two lists of slots are equal
 abbrev pub same : List (Option ℕ) → List (Option ℕ) → Bool

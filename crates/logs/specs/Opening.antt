@@ -1,6 +1,6 @@
 -- When bytes are a log, and why they are not.
 use mathlib.Core.Path.{_≡_}
-use mathlib.Core.List.{List, [], _∷_}
+use mathlib.Core.List.{List, [], _∷_, map}
 use mathlib.Core.Logic.{_⊎_}
 use mathlib.Core.Bool.{true, cond, _||_}
 use Prim.Native.Nat.{ℕ, zero, suc, _+_, _-_, _*_, _/_, _%_, _<_, _≤_}
@@ -14,8 +14,8 @@ use Rattle.books.specs.Faults.{numbered, placed}
 use Rattle.logs.specs.declared.side.Side.{Side}
 use Rattle.logs.specs.declared.side.Side.the-variants.{Leaving, Arriving}
 use Rattle.logs.specs.declared.span.Span.{Span}
-use Rattle.logs.specs.Sides.{column}
-use Rattle.logs.specs.History.{encode, inside, size}
+use Rattle.logs.specs.Sides.{column, other}
+use Rattle.logs.specs.History.{encode, inside, size, slots-on}
 use Rattle.logs.specs.Words.{word}
 
 -- what the first two words and the length refuse
@@ -113,6 +113,12 @@ pub record Accepted (bytes : List ℕ) (n : ℕ) (h : List Span) : Type 0 where
   pub few : n ≤ 1024
   pub short : length h ≤ 4096
   pub inside : inside n h ≡ true
+
+-- The slots of a history follow the chains of the bytes: on each side every closure below n has a chain, and its slots are
+-- the other ends of the records of its chain, in their order.
+pub record Chained (bytes : List ℕ) (n : ℕ) (h : List Span) : Type 0 where
+  pub chain : (s : Side) (u : ℕ) → u < n → (js : List ℕ) × Chain bytes n s u (headAt s u) js
+  pub slots : (s : Side) (u : ℕ) (js : List ℕ) → u < n → Chain bytes n s u (headAt s u) js → slots-on s h u ≡ map (λ j. Some (word bytes (endAt n (other s) j))) js
 
 -- bytes have one verdict only
 pub record Decided (bytes : List ℕ) : Type 0 where

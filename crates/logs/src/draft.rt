@@ -1,12 +1,11 @@
 // A draft writes a log into the caller's buffer, span by span.
 ghost use denote.Ref.{name};
-ghost use lib.ListN.{drop, length};
-ghost use mathlib.Core.List.{List, [], _++_, _∷_};
+ghost use lib.ListN.{length};
+ghost use mathlib.Core.List.{[], _∷_};
 ghost use mathlib.Core.Path.{_≡_};
-ghost use Prim.Native.Nat.{ℕ, _+_, _<_};
+ghost use Prim.Native.Nat.{_+_, _<_};
 ghost use Rattle.books.specs.Faults.{told};
-ghost use Rattle.logs.specs.Drafts.{Drafted, added, fitting, refuses, sealed, sealed-length};
-ghost use Rattle.logs.specs.History.{encode, size};
+ghost use Rattle.logs.specs.Drafts.{Added, DraftOf, Grows, Seals, Void, fitting, refuses, sealed, sealed-length};
 ghost use Rattle.logs.specs.Words.{spread, word};
 ghost use Rattle.std.specs.declared.option.Option.the-variants.{None};
 use super::side::Side;
@@ -16,6 +15,7 @@ use super::words::put_word;
 use super::words::word_at;
 use books::fault::Fault;
 
+// A log of n closures and the m records so far, at the front of the buffer; its first two words are yet to be written.
 #[derive(Drop)]
 pub struct Draft<'a> {
     buffer: &'a mut [u8],
@@ -51,8 +51,8 @@ impl<'a> Draft<'a> {
     // Starts a draft of n closures. Where `fits` refuses, the draft has no closures and writes nothing.
     pub fn start(n: u16, buffer: &'a mut [u8]) -> Draft<'a>
         ensures named { λ r. ⌜ name (r .buffer) ≡ name (buffer .entry) ⌝ }
-        ensures starts { λ r. ⌜ (fitting n (length (now (buffer .entry))) ≡ None → (r .n ≡ n) × Drafted (now (buffer .entry)) n (r .m) [] (now (r .buffer))) ⌝ }
-        ensures refused { λ r. ⌜ ((fitting n (length (now (buffer .entry))) ≡ None → ⊥) → (r .n ≡ 0) × (r .m ≡ 0) × (now (r .buffer) ≡ now (buffer .entry))) ⌝ }
+        ensures starts { λ r. ⌜ (fitting n (length (now (buffer .entry))) ≡ None → (r .n ≡ n) × DraftOf (now (buffer .entry)) [] r) ⌝ }
+        ensures refused { λ r. ⌜ ((fitting n (length (now (buffer .entry))) ≡ None → ⊥) → Void (now (buffer .entry)) r) ⌝ }
     {
         if fits(n, buffer).is_err() {
             return Draft { buffer, n: 0, m: 0 };
@@ -75,8 +75,8 @@ impl<'a> Draft<'a> {
         ensures answer { λ r. ⌜ told r ≡ refuses (now (self .entry) .n) (now (self .entry) .m) (length (now (now (self .entry) .buffer))) span ⌝ }
         ensures size { λ _. ⌜ now (self .exit) .n ≡ now (self .entry) .n ⌝ }
         ensures kept { λ r. ⌜ ((told r ≡ None → ⊥) → now (self .exit) ≡ now (self .entry)) ⌝ }
-        ensures adds { λ r. ⌜ (told r ≡ None → (now (self .exit) .m ≡ now (self .entry) .m + 1) × (now (now (self .exit) .buffer) ≡ added (now (self .entry) .n) (now (self .entry) .m) (now (now (self .entry) .buffer)) span)) ⌝ }
-        ensures grows { λ r. ⌜ ((before : List ℕ) (h : List Span) → told r ≡ None → Drafted before (now (self .entry) .n) (now (self .entry) .m) h (now (now (self .entry) .buffer)) → Drafted before (now (self .exit) .n) (now (self .exit) .m) (span ∷ h) (now (now (self .exit) .buffer))) ⌝ }
+        ensures adds { λ r. ⌜ (told r ≡ None → Added span (now (self .entry)) (now (self .exit))) ⌝ }
+        ensures grows { λ r. ⌜ (told r ≡ None → Grows span (now (self .entry)) (now (self .exit))) ⌝ }
     {
         if span.from >= self.n || span.to >= self.n {
             return Err(Fault::NoClosure);
@@ -101,7 +101,7 @@ impl<'a> Draft<'a> {
     pub fn seal(self) -> usize
         ensures gives { λ r. ⌜ r ≡ sealed-length (self .entry .n) (self .entry .m) (now (self .entry .buffer)) ⌝ }
         ensures leaves { λ _. ⌜ now (self .exit .0) ≡ sealed (self .entry .n) (self .entry .m) (now (self .entry .buffer)) ⌝ }
-        ensures seals { λ r. ⌜ ((before : List ℕ) (h : List Span) → Drafted before (self .entry .n) (self .entry .m) h (now (self .entry .buffer)) → (r ≡ size (self .entry .n) (length h)) × (now (self .exit .0) ≡ encode (self .entry .n) h ++ drop r before)) ⌝ }
+        ensures seals { λ r. ⌜ Seals (self .entry) r (now (self .exit .0)) ⌝ }
     {
         let Draft { buffer, n, m } = self;
         if n == 0 || buffer.len() < 4 {

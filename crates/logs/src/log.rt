@@ -1,14 +1,10 @@
 // A log that was opened, and its records.
 ghost use lib.ListN.{length};
-ghost use mathlib.Core.List.{List, []};
+ghost use mathlib.Core.List.{[]};
 ghost use mathlib.Core.Path.{_≡_};
-ghost use Prim.Native.Nat.{ℕ};
-ghost use Rattle.books.specs.Faults.{numbered, placed, told};
 ghost use Rattle.logs.specs.History.{recorded};
-ghost use Rattle.logs.specs.Logs.{closures, history};
-ghost use Rattle.logs.specs.Opening.{Accepted, Decided, Refused};
-ghost use Rattle.std.specs.declared.option.Option.the-variants.{None};
-ghost use Rattle.std.specs.Results.{Cases};
+ghost use Rattle.logs.specs.Logs.{Follows, Opens, Verdict, closures, history};
+ghost use Rattle.logs.specs.Opening.{Decided};
 use super::index::lay_out;
 use super::index::no_spans;
 use super::index::read_spans;
@@ -35,16 +31,17 @@ impl Log {
 
     // Takes the log that the bytes are. Where they are none, it stays as it was.
     pub fn open(&mut self, bytes: &[u8]) -> Result<(), Fault>
-        ensures opens { λ r. ⌜ ((n : ℕ) (h : List Span) → Accepted (now (bytes .entry)) n h → (told r ≡ None) × (closures (now (self .exit)) ≡ n) × (history (now (self .exit)) ≡ h)) ⌝ }
-        ensures verdict { λ r. ⌜ Cases r (λ _. Accepted (now (bytes .entry)) (closures (now (self .exit))) (history (now (self .exit)))) (λ e. Refused (now (bytes .entry)) (numbered e) (placed e) × (now (self .exit) ≡ now (self .entry))) ⌝ }
+        ensures opens { λ r. ⌜ Opens (now (bytes .entry)) r (now (self .exit)) ⌝ }
+        ensures verdict { λ r. ⌜ Verdict (now (bytes .entry)) r (now (self .entry)) (now (self .exit)) ⌝ }
+        ensures chains { λ r. ⌜ Follows (now (bytes .entry)) r (now (self .exit)) ⌝ }
         ensures decided { λ _. ⌜ Decided (now (bytes .entry)) ⌝ }
     {
-        let head = judge(bytes)?;
-        let spans = read_spans(bytes, head);
-        let out = lay_out(bytes, head, Side::Leaving);
-        let into = lay_out(bytes, head, Side::Arriving);
+        let header = judge(bytes)?;
+        let spans = read_spans(bytes, header);
+        let out = lay_out(bytes, header, Side::Leaving);
+        let into = lay_out(bytes, header, Side::Arriving);
         *self = Log {
-            m: head.m,
+            m: header.m,
             spans,
             out,
             into,

@@ -23,7 +23,7 @@ pub struct Header {
 
 pub(crate) fn read_header(bytes: &[u8]) -> Result<Header, Fault>
     ensures answer { λ r. ⌜ told r ≡ headed (now (bytes .entry)) ⌝ }
-    ensures words { λ r. ⌜ made r (λ head. (head .n ≡ word (now (bytes .entry)) 0) × (head .m ≡ word (now (bytes .entry)) 2)) ⌝ }
+    ensures words { λ r. ⌜ made r (λ header. (header .n ≡ word (now (bytes .entry)) 0) × (header .m ≡ word (now (bytes .entry)) 2)) ⌝ }
 {
     if bytes.len() < 4 {
         return Err(Fault::ShortLog);
@@ -43,28 +43,28 @@ pub(crate) fn read_header(bytes: &[u8]) -> Result<Header, Fault>
 }
 
 // The least value that the word k after the first two may not have.
-fn limit(head: Header, k: usize) -> usize
-    requires { ⌜ k < 2 * head .n + 4 * head .m ⌝ }
-    ensures { λ r. ⌜ r ≡ bound (head .n) (head .m) k ⌝ }
+fn limit(header: Header, k: usize) -> usize
+    requires { ⌜ k < 2 * header .n + 4 * header .m ⌝ }
+    ensures { λ r. ⌜ r ≡ bound (header .n) (header .m) k ⌝ }
 {
-    let heads = 2 * head.n as usize;
+    let heads = 2 * header.n as usize;
     if k < heads {
-        return head.m as usize + 1;
+        return header.m as usize + 1;
     }
     if (k - heads) % 4 < 2 {
-        return head.n as usize;
+        return header.n as usize;
     }
     (k - heads) / 4 + 1
 }
 
 // Finds the first word that is out of its range.
-fn ranges(bytes: &[u8], head: Header) -> Result<(), Fault>
-    requires { ⌜ length (now bytes) ≡ size (head .n) (head .m) ⌝ }
-    ensures { λ r. ⌜ Cases r (λ _. Ranged (now (bytes .entry)) (head .n) (head .m)) (λ e. (numbered e ≡ 5) × Outside (now (bytes .entry)) (head .n) (head .m) (placed e)) ⌝ }
+fn ranges(bytes: &[u8], header: Header) -> Result<(), Fault>
+    requires { ⌜ length (now bytes) ≡ size (header .n) (header .m) ⌝ }
+    ensures { λ r. ⌜ Cases r (λ _. Ranged (now (bytes .entry)) (header .n) (header .m)) (λ e. (numbered e ≡ 5) × Outside (now (bytes .entry)) (header .n) (header .m) (placed e)) ⌝ }
 {
-    for k in 0..2 * head.n as usize + 4 * head.m as usize {
+    for k in 0..2 * header.n as usize + 4 * header.m as usize {
         let place = 4 + 2 * k;
-        if word_at(bytes, place) as usize >= limit(head, k) {
+        if word_at(bytes, place) as usize >= limit(header, k) {
             return Err(Fault::WordRange { place });
         }
     }
@@ -72,12 +72,12 @@ fn ranges(bytes: &[u8], head: Header) -> Result<(), Fault>
 }
 
 // Follows the chain of a closure on one side, and counts its records.
-fn walk(bytes: &[u8], head: Header, side: Side, u: u16) -> Result<usize, Fault>
-    requires len { ⌜ length (now bytes) ≡ size (head .n) (head .m) ⌝ }
-    requires u { ⌜ u < head .n ⌝ }
-    requires ranged { ⌜ Ranged (now bytes) (head .n) (head .m) ⌝ }
-    ensures few { λ r. ⌜ made r (λ count. count ≤ head .m) ⌝ }
-    ensures follows { λ r. ⌜ Cases r (λ count. (js : List ℕ) × (Chain (now (bytes .entry)) (head .n) side u (headAt side u) js × (length js ≡ count))) (λ e. (numbered e ≡ 6) × Strays (now (bytes .entry)) (head .n) side u (headAt side u) (placed e)) ⌝ }
+fn walk(bytes: &[u8], header: Header, side: Side, u: u16) -> Result<usize, Fault>
+    requires len { ⌜ length (now bytes) ≡ size (header .n) (header .m) ⌝ }
+    requires u { ⌜ u < header .n ⌝ }
+    requires ranged { ⌜ Ranged (now bytes) (header .n) (header .m) ⌝ }
+    ensures few { λ r. ⌜ made r (λ count. count ≤ header .m) ⌝ }
+    ensures follows { λ r. ⌜ Cases r (λ count. (js : List ℕ) × (Chain (now (bytes .entry)) (header .n) side u (headAt side u) js × (length js ≡ count))) (λ e. (numbered e ≡ 6) × Strays (now (bytes .entry)) (header .n) side u (headAt side u) (placed e)) ⌝ }
 {
     let mut place = side.head_place(u);
     let mut count = 0;
@@ -86,40 +86,40 @@ fn walk(bytes: &[u8], head: Header, side: Side, u: u16) -> Result<usize, Fault>
         if link == 0 {
             return Ok(count);
         }
-        let end = side.end_place(head.n, link - 1);
+        let end = side.end_place(header.n, link - 1);
         if word_at(bytes, end) != u {
             return Err(Fault::ForeignLink { place });
         }
-        place = end + 4;
+        place = side.next_place(header.n, link - 1);
         count += 1;
     }
 }
 
 // Follows the chains of all closures on one side, and counts their records.
-fn chains(bytes: &[u8], head: Header, side: Side) -> Result<usize, Fault>
-    requires len { ⌜ length (now bytes) ≡ size (head .n) (head .m) ⌝ }
-    requires ranged { ⌜ Ranged (now bytes) (head .n) (head .m) ⌝ }
-    ensures { λ r. ⌜ Cases r (λ total. Chains (now (bytes .entry)) (head .n) side (head .n) total) (λ e. (numbered e ≡ 6) × Strayed (now (bytes .entry)) (head .n) side (placed e)) ⌝ }
+fn chains(bytes: &[u8], header: Header, side: Side) -> Result<usize, Fault>
+    requires len { ⌜ length (now bytes) ≡ size (header .n) (header .m) ⌝ }
+    requires ranged { ⌜ Ranged (now bytes) (header .n) (header .m) ⌝ }
+    ensures { λ r. ⌜ Cases r (λ total. Chains (now (bytes .entry)) (header .n) side (header .n) total) (λ e. (numbered e ≡ 6) × Strayed (now (bytes .entry)) (header .n) side (placed e)) ⌝ }
 {
     let mut total = 0;
-    for u in 0..head.n {
-        total += walk(bytes, head, side, u)?;
+    for u in 0..header.n {
+        total += walk(bytes, header, side, u)?;
     }
     Ok(total)
 }
 
 // The number of closures and of records of bytes that are a log.
 pub(crate) fn judge(bytes: &[u8]) -> Result<Header, Fault>
-    ensures judged { λ r. ⌜ made r (λ head. Judged (now (bytes .entry)) (head .n) (head .m)) ⌝ }
-    ensures verdict { λ r. ⌜ Cases r (λ head. Accepted (now (bytes .entry)) (head .n) (spans-at (now (bytes .entry)) (head .n) (head .m))) (λ e. Refused (now (bytes .entry)) (numbered e) (placed e)) ⌝ }
+    ensures judged { λ r. ⌜ made r (λ header. Judged (now (bytes .entry)) (header .n) (header .m)) ⌝ }
+    ensures verdict { λ r. ⌜ Cases r (λ header. Accepted (now (bytes .entry)) (header .n) (spans-at (now (bytes .entry)) (header .n) (header .m))) (λ e. Refused (now (bytes .entry)) (numbered e) (placed e)) ⌝ }
 {
-    let head = read_header(bytes)?;
-    ranges(bytes, head)?;
-    let leaving = chains(bytes, head, Side::Leaving)?;
-    let arriving = chains(bytes, head, Side::Arriving)?;
-    if leaving != head.m as usize || arriving != head.m as usize {
-        let place = 4 + 4 * head.n as usize;
+    let header = read_header(bytes)?;
+    ranges(bytes, header)?;
+    let leaving = chains(bytes, header, Side::Leaving)?;
+    let arriving = chains(bytes, header, Side::Arriving)?;
+    if leaving != header.m as usize || arriving != header.m as usize {
+        let place = 4 + 4 * header.n as usize;
         return Err(Fault::LostRecord { place });
     }
-    Ok(head)
+    Ok(header)
 }

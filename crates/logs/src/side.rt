@@ -1,6 +1,6 @@
 // The two sides of a span: it leaves a closure, and it arrives at one.
 ghost use mathlib.Core.Path.{_≡_};
-ghost use Rattle.logs.specs.Opening.{endAt, headAt};
+ghost use Rattle.logs.specs.Opening.{endAt, headAt, nextAt};
 ghost use Rattle.logs.specs.Sides.{column, other};
 
 #[derive(Clone, Copy)]
@@ -41,5 +41,12 @@ impl Side {
         ensures { λ r. ⌜ r ≡ endAt n self j ⌝ }
     {
         4 + 4 * n as usize + 8 * j as usize + 2 * self.column()
+    }
+
+    // The place of the link from the record j to the next record of its chain on this side.
+    pub(crate) fn next_place(self, n: u16, j: u16) -> usize
+        ensures { λ r. ⌜ r ≡ nextAt n self j ⌝ }
+    {
+        self.end_place(n, j) + 4
     }
 }

@@ -4,69 +4,65 @@ use logs::span::Span;
 // Closure 0 is the head end, 1 to 8 the main ring, 9 to 31 the branches, 32 a standby feed.
 pub(crate) const CLOSURES: u16 = 33;
 
-const fn span(from: u16, to: u16) -> Span {
-    Span { from, to }
-}
-
 pub(crate) fn spans() -> [Span; 47] {
     [
         // the head end feeds the ring at two closures, and hears from one
-        span(0, 1),
-        span(0, 5),
-        span(1, 0),
+        Span::new(0, 1),
+        Span::new(0, 5),
+        Span::new(1, 0),
         // the ring, clockwise
-        span(1, 2),
-        span(2, 3),
-        span(3, 4),
-        span(4, 5),
-        span(5, 6),
-        span(6, 7),
-        span(7, 8),
-        span(8, 1),
+        Span::new(1, 2),
+        Span::new(2, 3),
+        Span::new(3, 4),
+        Span::new(4, 5),
+        Span::new(5, 6),
+        Span::new(6, 7),
+        Span::new(7, 8),
+        Span::new(8, 1),
         // its spare fibre back from the school to the north
-        span(4, 3),
-        span(3, 2),
+        Span::new(4, 3),
+        Span::new(3, 2),
         // north street
-        span(2, 9),
-        span(9, 10),
-        span(10, 11),
-        span(10, 12),
+        Span::new(2, 9),
+        Span::new(9, 10),
+        Span::new(10, 11),
+        Span::new(10, 12),
         // market
-        span(3, 13),
-        span(13, 14),
-        span(14, 15),
-        span(15, 16),
-        span(16, 13),
+        Span::new(3, 13),
+        Span::new(13, 14),
+        Span::new(14, 15),
+        Span::new(15, 16),
+        Span::new(16, 13),
         // school, lit both ways
-        span(4, 17),
-        span(17, 18),
-        span(18, 17),
-        span(17, 4),
+        Span::new(4, 17),
+        Span::new(17, 18),
+        Span::new(18, 17),
+        Span::new(17, 4),
         // mill lane, with a doubled first span
-        span(6, 19),
-        span(6, 19),
-        span(19, 20),
-        span(20, 21),
-        span(21, 22),
-        span(22, 23),
+        Span::new(6, 19),
+        Span::new(6, 19),
+        Span::new(19, 20),
+        Span::new(20, 21),
+        Span::new(21, 22),
+        Span::new(22, 23),
         // quay
-        span(7, 24),
-        span(24, 25),
-        span(25, 26),
-        span(24, 27),
-        span(27, 7),
+        Span::new(7, 24),
+        Span::new(24, 25),
+        Span::new(25, 26),
+        Span::new(24, 27),
+        Span::new(27, 7),
         // hill, a ring of its own
-        span(8, 28),
-        span(28, 29),
-        span(29, 30),
-        span(30, 31),
-        span(31, 28),
+        Span::new(8, 28),
+        Span::new(28, 29),
+        Span::new(29, 30),
+        Span::new(30, 31),
+        Span::new(31, 28),
         // the standby feed: nothing arrives there but its own test loop
-        span(32, 5),
-        span(32, 32),
-        span(32, 28),
+        Span::new(32, 5),
+        Span::new(32, 32),
+        Span::new(32, 28),
         // two short cuts
-        span(9, 13),
-        span(5, 4),
+        Span::new(9, 13),
+        Span::new(5, 4),
     ]
 }

@@ -19,10 +19,10 @@ follow-requires-in-loop-u c κs =
 pub loop-u-again : need.loop-u-again
 loop-u-again c =
     let e : suc (c .loop-u .u) ≡ c .loop-u .u + 1 = omega arith in
-    subst (λ k. Laid (c .args .side) (spans-at (c .args .bytes .now) (c .args .head .n) (c .args .head .m)) k k (c .follow-in-loop-u .last .lists)) e (c .follow-in-loop-u .ensures)
+    subst (λ k. Laid (c .args .side) (spans-at (c .args .bytes .now) (c .args .header .n) (c .args .header .m)) k k (c .follow-in-loop-u .last .lists)) e (c .follow-in-loop-u .ensures)
 
 pub returns : need.returns
 returns c =
     let s = c .pre .some in
-    let e : c .loop-u .u ≡ c .args .head .n = omega arith in
-    subst (λ k. Laid (c .args .side) (spans-at (c .args .bytes .now) (c .args .head .n) (c .args .head .m)) k k (c .loop-u .lists)) e (c .loop-u .inv)
+    let e : c .loop-u .u ≡ c .args .header .n = omega arith in
+    subst (λ k. Laid (c .args .side) (spans-at (c .args .bytes .now) (c .args .header .n) (c .args .header .m)) k k (c .loop-u .lists)) e (c .loop-u .inv)

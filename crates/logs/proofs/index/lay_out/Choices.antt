@@ -3,4 +3,4 @@ use Rattle.logs.specs.Opening.{spans-at}
 use Rattle.logs.proofs.index.lay_out.Given as given
 
 abbrev pub Inv-loop-u : given.InvT-loop-u
-Inv-loop-u l = Laid (l .side) (spans-at (l .bytes) (l .head .n) (l .head .m)) (l .u) (l .u) (l .lists)
+Inv-loop-u l = Laid (l .side) (spans-at (l .bytes) (l .header .n) (l .header .m)) (l .u) (l .u) (l .lists)

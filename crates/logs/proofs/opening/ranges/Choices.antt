@@ -4,4 +4,4 @@ use Rattle.logs.specs.Words.{word}
 use Rattle.logs.proofs.opening.ranges.Given as given
 
 abbrev pub Inv-loop-k : given.InvT-loop-k
-Inv-loop-k l = (j : ℕ) → j < l .k → word (l .bytes) (4 + 2 * j) < bound (l .head .n) (l .head .m) j
+Inv-loop-k l = (j : ℕ) → j < l .k → word (l .bytes) (4 + 2 * j) < bound (l .header .n) (l .header .m) j

@@ -7,7 +7,7 @@ use Rattle.logs.proofs.opening.walk.Needs as need
 
 pub chain-holds : need.chain-holds
 chain-holds c =
-    walk-start (c .args .bytes .now) (c .args .head .n) (c .args .head .m) (c .args .side) (c .args .u) (c .head-place-place .result) (c .pre .ranged) (c .pre .u) (c .head-place-place .ensures)
+    walk-start (c .args .bytes .now) (c .args .header .n) (c .args .header .m) (c .args .side) (c .args .u) (c .head-place-place .result) (c .pre .ranged) (c .pre .u) (c .head-place-place .ensures)
 
 pub word-at-link-requires : need.word-at-link-requires
 word-at-link-requires c κs =
@@ -38,9 +38,9 @@ add-count c =
 pub chain-less : need.chain-less
 chain-less c =
     let e : word (c .args .bytes .now) (c .chain .place) ≡ suc (c .word-at-link .result - 1) = omega arith in
-    walk-falls _ _ _ _ _ _ _ _ _ (c .pre .ranged) (c .chain .inv) e (c .end-place-end .ensures)
+    walk-falls _ _ _ _ _ _ _ _ _ (c .pre .ranged) (c .chain .inv) e (c .next-place-place .ensures)
 
 pub chain-again : need.chain-again
 chain-again c =
     let e : word (c .args .bytes .now) (c .chain .place) ≡ suc (c .word-at-link .result - 1) = omega arith in
-    walk-on _ _ _ _ _ _ _ _ _ _ (c .pre .ranged) (c .chain .inv) e (c .end-place-end .ensures) (c .word-at .ensures) (c .if-word-at-u .left)
+    walk-on _ _ _ _ _ _ _ _ _ _ _ (c .pre .ranged) (c .chain .inv) e (c .end-place-end .ensures) (c .word-at .ensures) (c .if-word-at-u .left) (c .next-place-place .ensures)

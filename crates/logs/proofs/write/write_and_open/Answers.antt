@@ -21,4 +21,4 @@ returns c =
     let w = c .in-Continue-len .ensures tt .bytes in
     let log = front (c .args .n) (c .in-Continue-len .len) (c .in-Continue-len .len - 0) (reverse (c .args .spans .now)) (c .args .buffer .now) (c .write-log .last .buffer) w (omega arith) in
     let o = c .in-Continue-open .ensures tt .opens (c .args .n) (reverse (c .args .spans .now)) log in
-    record { answer = c .in-Continue-len .ensures tt .answer; bytes = w; log = (o .1, o .2) }
+    record { writes = c .in-Continue-len .ensures tt; log = o .1 }

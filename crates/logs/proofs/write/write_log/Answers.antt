@@ -16,7 +16,7 @@ pub loop-span-holds : need.loop-span-holds
 loop-span-holds c =
     let ok : fitting (c .args .n) (length (c .args .buffer .now)) ≡ None = sym (c .in-Continue-fits .ensures tt) in
     let start = c .start-draft .ensures .starts ok in
-    (refl, start .0, λ before d. onward-none before (c .args .n) (c .start-draft .result .m) (c .args .spans .now) (c .start-draft .result .buffer .now) d)
+    (refl, start .0, λ before d. onward-none before (c .args .n) (c .start-draft .result .n) (c .start-draft .result .m) (c .args .spans .now) (c .start-draft .result .buffer .now) (start .0) d)
 
 pub loop-span-again : need.loop-span-again
 loop-span-again c =
@@ -28,7 +28,7 @@ loop-span-again c =
       cc (add .size, inv .1),
       λ before d.
           onward-more before (c .args .n) (old .n) (new .n) (c .args .spans .now) (c .loop-span .span-index) (old .m) (new .m) (old .buffer .now) (new .buffer .now) _
-          (inv .1) (add .size) (inv .2 before d) (omega arith) (add .answer) (λ h x. add .grows before h refl x),
+          (inv .1) (add .size) (inv .2 before d) (omega arith) (add .answer) (λ h x. add .grows refl before h x),
     )
 
 pub returns-in-Break-fits : need.returns-in-Break-fits
@@ -74,5 +74,5 @@ returns c =
       answer = written-answer before (c .args .n) (c .args .spans .now) (c .loop-span .span-index) (old .m) (old .buffer .now) ok w i;
       bytes =
           written-log before (c .args .n) (old .n) (c .args .spans .now) (c .loop-span .span-index) (old .m) (c .seal .result) (old .buffer .now) _ (inv .1) w i
-          (λ h d. let s = c .seal .ensures .seals before h d in (s .0, grind arith));
+          (λ h d. let s = c .seal .ensures .seals before h d in let b = s .bytes in record { gives = s .gives; extent = s .extent; log = s .log; bytes = grind arith });
     }

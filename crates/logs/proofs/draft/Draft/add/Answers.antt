@@ -19,5 +19,5 @@ returns c =
       size = search needs;
       kept = λ no. absurd (no refl);
       adds = λ _. (refl, e);
-      grows = λ before h _ d. grown before buffer two n m (c .args .span) h d (omega arith) (omega arith) (omega arith) (omega arith) e;
+      grows = λ _ before h d. grown before buffer two n m (c .args .span) h d (omega arith) (omega arith) (omega arith) (omega arith) e;
     }
