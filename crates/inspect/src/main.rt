@@ -9,6 +9,8 @@ use logs::write::rewrite;
 use std::env;
 use std::fs;
 use std::io;
+use std::io::BufWriter;
+use std::io::Write;
 use stop::Stop;
 use stop::StopDisplay;
 use stop::StopFromAllocError;
@@ -28,16 +30,16 @@ fn only_argument(rt: &LibcRuntime) -> Result<String, Stop> {
 }
 
 // A line for each closure, and one for the longest run.
-fn print_figures(rt: &LibcRuntime, n: u16, figures: &Figures) -> io::Result<()> {
+fn print_figures(out: &mut impl Write, n: u16, figures: &Figures) -> io::Result<()> {
     let depths = figures.out_depths.iter().zip(figures.in_depths.iter());
-    for (u, (out, into)) in depths.enumerate().take(n as usize) {
-        println!(rt, "closure {u} out {out} in {into}")?;
+    for (u, (outward, inward)) in depths.enumerate().take(n as usize) {
+        writeln!(out, "closure {u} out {outward} in {inward}")?;
     }
     let longest = figures.longest;
     let length = longest.length;
     let from = longest.from;
     let to = longest.to;
-    println!(rt, "diameter {length} from {from} to {to}")
+    writeln!(out, "diameter {length} from {from} to {to}")
 }
 
 fn inspect(rt: &LibcRuntime) -> Result<(), Stop> {
@@ -49,13 +51,15 @@ fn inspect(rt: &LibcRuntime) -> Result<(), Stop> {
     log.open(bytes.as_slice())?;
     let n = log.n();
     let m = log.m();
-    println!(rt, "closures {n}")?;
-    println!(rt, "spans {m}")?;
-    print_figures(rt, n, &measure(&log))?;
+    let mut out = BufWriter::new(rt.stdout());
+    writeln!(out, "closures {n}")?;
+    writeln!(out, "spans {m}")?;
+    print_figures(&mut out, n, &measure(&log))?;
     let mut afresh = vec![in rt.alloc(); 0; bytes.len()]?;
     let _ = rewrite(&log, afresh.as_mut_slice())?;
     let same = if afresh == bytes { "same" } else { "different" };
-    println!(rt, "rewritten {same}")?;
+    writeln!(out, "rewritten {same}")?;
+    out.flush()?;
     Ok(())
 }
 
