@@ -1,4 +1,6 @@
 // Splice plans, how they are read, and how they are measured.
+#![tactic(auto)]
+
 pub mod adjacency;
 pub mod book;
 pub mod fault;

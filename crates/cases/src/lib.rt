@@ -1,4 +1,6 @@
 // Tests of logs, drafts, rows, layers and visits on plans, damaged logs and spoilt rows.
+#![tactic(auto)]
+
 #[cfg(test)]
 mod dot;
 #[cfg(test)]

@@ -1,5 +1,7 @@
 // inspect PLAN.log [--turned] [--shut CLOSURE..]: opens a splice log, visits every closure of its plan both ways, and prints the
 // measures of the plan, or of the turned plan, or with closures shut.
+#![tactic(auto)]
+
 mod report;
 mod request;
 mod stop;

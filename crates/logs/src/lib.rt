@@ -1,4 +1,6 @@
 // The chained log: its draft, its opening, and an opened log as a book.
+#![tactic(auto)]
+
 pub mod draft;
 mod index;
 pub mod log;

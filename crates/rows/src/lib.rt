@@ -1,4 +1,6 @@
 // Rows: adjacency lists of both directions that are handed over, and the book that is made of them.
+#![tactic(auto)]
+
 mod laying;
 mod listed;
 pub mod rows;

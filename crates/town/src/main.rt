@@ -1,4 +1,6 @@
 // town FILE: writes the sample plan as a log, opens it again, and says whether the file was the same before.
+#![tactic(auto)]
+
 mod plan;
 
 use anyhow::anyhow;

@@ -2,10 +2,10 @@ use Rattle.std.proofs.Common.{refl, arith, rules}
 use Rattle.books.proofs.Laid.{filled_by, grown_ascends, grown_slots, grown_end}
 use Rattle.books.proofs.stored.Adjacency.grow.Goals as goal
 
-pub invariant-of-self : goal.invariant-of-self
-invariant-of-self c =
+pub invariant_of-self : goal.invariant_of-self
+invariant_of-self c =
     let self = c.args.self.now in
-    ((omega arith, omega arith), (grown_ascends self.n self.starts self.ends (omega arith) (omega arith) self.ascends (omega arith), tt))
+    record { few = (omega arith, omega arith); ascends = grown_ascends self.n self.starts self.ends (omega arith) (omega arith) self.ascends (omega arith) }
 
 pub returns : goal.returns
 returns c =

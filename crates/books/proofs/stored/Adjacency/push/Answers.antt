@@ -4,10 +4,10 @@ use Rattle.books.specs.Adjacent.{filled}
 use Rattle.books.proofs.Laid.{filled_by, filled_is, pushed_ascends, pushed_last, pushed_others, pushed_end}
 use Rattle.books.proofs.stored.Adjacency.push.Goals as goal
 
-pub invariant-of-self : goal.invariant-of-self
-invariant-of-self c =
+pub invariant_of-self : goal.invariant_of-self
+invariant_of-self c =
     let self = c.args.self.now in
-    ((omega arith, omega arith), (pushed_ascends self.n self.starts self.ends c.args.v (omega arith) (omega arith) (omega arith) (omega arith) self.ascends (omega arith), tt))
+    record { few = (omega arith, omega arith); ascends = pushed_ascends self.n self.starts self.ends c.args.v (omega arith) (omega arith) (omega arith) (omega arith) self.ascends (omega arith) }
 
 pub returns-then-at-ge4096 : goal.returns-then-at-ge4096
 returns-then-at-ge4096 c =
