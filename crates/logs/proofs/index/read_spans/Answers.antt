@@ -9,5 +9,5 @@ loop-j-preserved c =
     let short = c.requires.short in (
       length-set c.loop-j.spans c.loop-j.j _ ∙ inv.0,
       spans_more c.args.bytes.now c.args.header.n c.loop-j.j _ _ _ _ c.loop-j.spans (omega arith) inv.1
-          c.end-place.ensures c.word-at-from.ensures c.end-place-in-loop-j.ensures c.word-at-to.ensures,
+          c.end_place.ensures c.word_at-from.ensures c.end_place-in-loop-j.ensures c.word_at-to.ensures,
     )

@@ -16,5 +16,5 @@ returns c =
     record { written = refl; some = f.0; few = f.1; short = omega (arith, f.2); inside = log.within } in
     let z : c.args.log.now.m - 0 ≡ c.args.log.now.m = omega arith in
     let spans = ap (λ k. take k log.spans) z ∙ sym (reverse-reverse (take log.m log.spans)) in
-    let w = written_same (closures log) c.n.result (reverse (history log)) _ before c.write-log.new.buffer c.write-log.result c.n.ensures spans c.write-log.ensures in
-    record { writes = w; log = own; round = λ bytes a. rewritten bytes log before c.write-log.new.buffer c.write-log.result a w }
+    let w = written_same (closures log) c.n.result (reverse (history log)) _ before c.write_log.new.buffer c.write_log.result c.n.ensures spans c.write_log.ensures in
+    record { writes = w; log = own; round = λ bytes a. rewritten bytes log before c.write_log.new.buffer c.write_log.result a w }

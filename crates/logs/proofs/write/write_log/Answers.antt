@@ -10,14 +10,14 @@ along a b c d e f g = sym (g ∙ f ∙ e)
 
 pub loop-span-init : goal.loop-span-init
 loop-span-init c =
-    let ok : fitting c.args.n (length c.args.buffer.now) ≡ None = sym c.in-ok-fits.ensures in
+    let ok : fitting c.args.n (length c.args.buffer.now) ≡ None = sym c.in_ok-fits.ensures in
     let start = c.start-draft.ensures.starts ok in
     (refl, start.0, λ before d. onward_none before c.args.n c.start-draft.result.n c.start-draft.result.m c.args.spans.now c.start-draft.result.buffer.now start.0 d)
 
 pub loop-span-preserved : goal.loop-span-preserved
 loop-span-preserved c =
     let inv = c.loop-span.invariant in
-    let add = c.in-ok-add.ensures in
+    let add = c.in_ok-add.ensures in
     let old = c.loop-span.draft in
     let new = c.add.new.self in (
       cc (add.named, inv.0),
@@ -27,25 +27,25 @@ loop-span-preserved c =
           inv.1 add.size (inv.2 before d) (omega arith) add.answer (λ h x. add.grows refl before h x),
     )
 
-pub returns-in-err-fits : goal.returns-in-err-fits
-returns-in-err-fits c =
-    let p = err_from_is_err_and c.from-residual.result c.from-residual.ensures.1 in
-    let e = c.in-err-fits.ensures in
+pub returns-in_err-fits : goal.returns-in_err-fits
+returns-in_err-fits c =
+    let p = err_from_is_err_and c.from_residual.result c.from_residual.ensures.1 in
+    let e = c.in_err-fits.ensures in
     rw (p.1, p.2)
     (record {
       answer = unfit_answer c.args.n (length c.args.buffer.now) c.args.spans.now _ e;
       bytes = unfit_left c.args.n c.args.spans.now c.args.buffer.now _ e;
     })
 
-pub returns-in-err-add : goal.returns-in-err-add
-returns-in-err-add c =
-    let p = err_from_is_err_and c.from-residual-in-err-add.result c.from-residual-in-err-add.ensures.1 in
+pub returns-in_err-add : goal.returns-in_err-add
+returns-in_err-add c =
+    let p = err_from_is_err_and c.from_residual-in_err-add.result c.from_residual-in_err-add.ensures.1 in
     let inv = c.loop-span.invariant in
-    let add = c.in-err-add.ensures in
+    let add = c.in_err-add.ensures in
     let old = c.loop-span.draft in
     let before = c.args.buffer.now in
     let i : c.loop-span.span-index < length c.args.spans.now = omega arith in
-    let ok : None ≡ fitting c.args.n (length c.args.buffer.now) = c.in-ok-fits.ensures in
+    let ok : None ≡ fitting c.args.n (length c.args.buffer.now) = c.in_ok-fits.ensures in
     let w = inv.2 before (c.start-draft.ensures.starts (sym ok)).1 in
     let named = along _ c.start-draft.result.buffer.ghost_name old.buffer.ghost_name c.add.new.self.buffer.ghost_name c.start-draft.ensures.named inv.0 add.named in
     let kept = ap (λ x. x.buffer.now) (add.kept (not_none _)) in
@@ -63,7 +63,7 @@ returns c =
     let old = c.loop-span.draft in
     let before = c.args.buffer.now in
     let i : length c.args.spans.now ≤ c.loop-span.span-index = omega arith in
-    let ok : None ≡ fitting c.args.n (length c.args.buffer.now) = c.in-ok-fits.ensures in
+    let ok : None ≡ fitting c.args.n (length c.args.buffer.now) = c.in_ok-fits.ensures in
     let w = inv.2 before (c.start-draft.ensures.starts (sym ok)).1 in
     let named = sym (inv.0 ∙ c.start-draft.ensures.named) in
     record {

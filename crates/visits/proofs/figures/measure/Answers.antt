@@ -4,7 +4,7 @@ use Rattle.books.proofs.Measured.{book_closed}
 use Rattle.visits.specs.Figured.{Sofar}
 use Rattle.visits.proofs.Measuring.{all_measured, in_accepted, out_accepted}
 use Rattle.visits.proofs.figures.measure.Goals as goal
-use Rattle.visits.proofs.figures.measure.Goals.{in-Ok+in-Ok-in-visit, in-Ok+in-default-in-visit, in-default}
+use Rattle.visits.proofs.figures.measure.Goals.{in-Ok+in-Ok-in_visit, in-Ok+in_default-in_visit, in_default}
 
 pub loop-u-init : goal.loop-u-init
 loop-u-init g c =
@@ -23,12 +23,12 @@ loop-u-preserved g c =
     let s = g.met.B.Outward.sound b in
     let in' : c.loop-u.u < l.size = omega (arith, c.loop-u-test.true, c.n-u-end.ensures) in
     let few : l.size ≤ 1024 = omega (arith, s.few, g.met.B.Outward.capped) in
-    elim c.match-out-visit.branch [
-      | in-Ok+in-Ok-in-visit w ↦
+    elim c.match-out_visit.branch [
+      | in-Ok+in-Ok-in_visit w ↦
           subst (λ f. Sofar (plan l) (c.loop-u.u + 1) f) (sym w.figures-is)
-          (w.note.ensures (plan l) (book_closed l s) in' few w.in-Ok.ensures.tells w.in-Ok-in-visit.ensures.tells c.loop-u.invariant)
-      | in-Ok+in-default-in-visit w ↦ absurd (in_accepted (plan l) c.loop-u.u in' w.in-default-in-visit.ensures.answer)
-      | in-default w ↦ absurd (out_accepted (plan l) c.loop-u.u in' w.in-default.ensures.answer)
+          (w.note.ensures (plan l) (book_closed l s) in' few w.in-Ok.ensures.tells w.in-Ok-in_visit.ensures.tells c.loop-u.invariant)
+      | in-Ok+in_default-in_visit w ↦ absurd (in_accepted (plan l) c.loop-u.u in' w.in_default-in_visit.ensures.answer)
+      | in_default w ↦ absurd (out_accepted (plan l) c.loop-u.u in' w.in_default.ensures.answer)
     ]
 
 pub returns : goal.returns

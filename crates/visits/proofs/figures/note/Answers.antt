@@ -7,10 +7,10 @@ returns-in-Some c =
     λ p closed in' few t s o.
     raised p closed c.args.u in' few c.args.out.now c.args.into.now t s c.args.figures.now o c.in-Some.to c.if-out-figures.true (sym c.in-Some.ensures)
 
-pub returns-in-default : goal.returns-in-default
-returns-in-default c =
+pub returns-in_default : goal.returns-in_default
+returns-in_default c =
     λ p closed in' few t s o.
-    absurd (attained p closed c.args.u in' few c.args.out.now c.args.into.now t s c.args.figures.now o (sym c.in-default.ensures))
+    absurd (attained p closed c.args.u in' few c.args.out.now c.args.into.now t s c.args.figures.now o (sym c.in_default.ensures))
 
 pub returns-else-out-figures : goal.returns-else-out-figures
 returns-else-out-figures c =

@@ -4,16 +4,16 @@ use Rattle.visits.proofs.Slots.{given_slot}
 use Rattle.visits.proofs.Steps.{noted_more, none_more, all_found, room_left}
 use Rattle.visits.proofs.Ends.{looked_all}
 use Rattle.visits.proofs.search.look.Goals as goal
-use Rattle.visits.proofs.search.look.Goals.{in-Some, in-default}
+use Rattle.visits.proofs.search.look.Goals.{in-Some, in_default}
 
-pub offset-bounds-search-head : goal.offset-bounds-search-head
-offset-bounds-search-head g c = omega (arith, c.requires.early, all_found c.requires.going, c.requires.going.few)
+pub offset_bounds-search-head : goal.offset_bounds-search-head
+offset_bounds-search-head g c = omega (arith, c.requires.early, all_found c.requires.going, c.requires.going.few)
 
 pub bounds-search-head : goal.bounds-search-head
 bounds-search-head g c = omega (arith, c.requires.early, all_found c.requires.going, c.requires.going.few)
 
-pub overflow-add-d : goal.overflow-add-d
-overflow-add-d g c = omega (arith, c.requires.early, all_found c.requires.going, c.requires.going.few, c.requires.going.soon c.args.head c.requires.early)
+pub overflow_add-d : goal.overflow_add-d
+overflow_add-d g c = omega (arith, c.requires.early, all_found c.requires.going, c.requires.going.few, c.requires.going.soon c.args.head c.requires.early)
 
 -- the closure in a slot is one of the plan
 pub note-requires : goal.note-requires
@@ -26,11 +26,11 @@ note-requires g c =
 pub loop-k-preserved : goal.loop-k-preserved
 loop-k-preserved g c =
     let b = c.args.spans.now in
-    elim c.match-slot-at.branch [
+    elim c.match-slot_at.branch [
       | in-Some w ↦
           let f = given_slot (g.S.Spans.listing b) (place c.args.search.now c.args.head) c.loop-k.k w.in-Some.v c.requires.sound w.in-Some.ensures in
           noted_more w.in-Some.v c.loop-k.invariant f.0 f.2 f.1 w.search-is w.note.ensures
-      | in-default w ↦ none_more c.loop-k.invariant w.in-default.ensures w.search-is
+      | in_default w ↦ none_more c.loop-k.invariant w.in_default.ensures w.search-is
     ]
 
 pub returns : goal.returns

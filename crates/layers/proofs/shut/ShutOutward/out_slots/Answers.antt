@@ -5,4 +5,4 @@ use Rattle.layers.proofs.shut.ShutOutward.out_slots.Goals as goal
 pub returns : goal.returns
 returns g c =
     let b = c.args.self.now in
-    record { slots = count_from (shuts b) (g.B.Outward.outgoing b.below).slots c.args.u c.out-slots.result c.out-slots.ensures; below = c.out-slots.ensures }
+    record { slots = count_from (shuts b) (g.B.Outward.outgoing b.below).slots c.args.u c.out_slots.result c.out_slots.ensures; below = c.out_slots.ensures }

@@ -7,10 +7,10 @@ returns c =
     let buffer = c.args.self.now.buffer.now in
     let n = c.args.self.now.n in
     let m = c.args.self.now.m in
-    let two = c.put-word-2.new.bytes in
+    let two = c.put_word-2.new.bytes in
     let e =
-    writes buffer c.write-record.new.part c.put-word.new.bytes two n m c.word-out.result c.word-into.result _ c.log-size-end.result c.head-place-leaving.result c.head-place-arriving.result c.args.span (omega arith) c.log-size-end.ensures c.head-place-leaving.ensures c.head-place-arriving.ensures
-    c.word-out.ensures c.word-into.ensures c.write-record.ensures c.put-word.ensures c.put-word-2.ensures in
+    writes buffer c.write_record.new.part c.put_word.new.bytes two n m c.word-out.result c.word-into.result _ c.log_size-end.result c.head_place-leaving.result c.head_place-arriving.result c.args.span (omega arith) c.log_size-end.ensures c.head_place-leaving.ensures c.head_place-arriving.ensures
+    c.word-out.ensures c.word-into.ensures c.write_record.ensures c.put_word.ensures c.put_word-2.ensures in
     record {
       named = search rules;
       answer = search rules;

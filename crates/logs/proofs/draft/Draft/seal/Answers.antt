@@ -14,6 +14,6 @@ returns-then-n-eq0 c =
 
 pub returns : goal.returns
 returns c =
-    let e : c.log-size.result ≡ sealed_length c.args.self.n c.args.self.m c.args.self.buffer.now = search rules in
-    let f : c.put-word-2.new.bytes ≡ sealed c.args.self.n c.args.self.m c.args.self.buffer.now = search rules in
-    record { gives = e; leaves = f; seals = λ before h d. seals before c.args.self.n c.args.self.m _ h c.args.self.buffer.now c.put-word-2.new.bytes d e f }
+    let e : c.log_size.result ≡ sealed_length c.args.self.n c.args.self.m c.args.self.buffer.now = search rules in
+    let f : c.put_word-2.new.bytes ≡ sealed c.args.self.n c.args.self.m c.args.self.buffer.now = search rules in
+    record { gives = e; leaves = f; seals = λ before h d. seals before c.args.self.n c.args.self.m _ h c.args.self.buffer.now c.put_word-2.new.bytes d e f }
