@@ -26,7 +26,7 @@ fn a_buffer_one_byte_short(rt: HostRuntime) {
     );
     assert_eq!(rt;
         &buffer[0..],
-        b"\0\0\0\0\0\0\0\0\0\0\0\0\x07\x07\x07\x07\x07\x07\x07"
+        b"\0\0\0\0\0\0\0\0\0\0\0\0\x07\x07\x07\x07\x07\x07\x07".as_slice()
     );
     let mut buffer = [7; 21];
     assert_eq!(rt; write_log(2, &[Span::new(0, 1)], &mut buffer), Ok(20));
@@ -52,7 +52,7 @@ fn a_refused_span_changes_nothing(rt: HostRuntime) {
     assert_eq!(rt; draft.add(Span::new(2, 0)), Err(Fault::NoClosure));
     assert_eq!(rt; draft.seal(), 20);
     assert_eq!(rt; &buffer[0..20], ONE_SPAN);
-    assert_eq!(rt; &buffer[20..], &[7; 8]);
+    assert_eq!(rt; &buffer[20..], [7; 8].as_slice());
 }
 
 // A number that is no closure is refused before the want of room.

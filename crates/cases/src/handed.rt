@@ -117,8 +117,8 @@ fn rows_are_read_and_measured(rt: HostRuntime) {
     assert_eq!(rt; rows.out_slots(4), 0);
     assert_eq!(rt; rows.in_slot(3, 0), Some(2));
     let figures = measure(&rows);
-    assert_eq!(rt; &figures.out_depths[0..4], &[3, 2, 2, 0]);
-    assert_eq!(rt; &figures.in_depths[0..4], &[2, 2, 2, 3]);
+    assert_eq!(rt; &figures.out_depths[0..4], [3, 2, 2, 0].as_slice());
+    assert_eq!(rt; &figures.in_depths[0..4], [2, 2, 2, 3].as_slice());
 }
 
 // The listings agree as sets: a span may be listed more often on one side.

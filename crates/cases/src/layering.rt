@@ -59,12 +59,12 @@ fn closures_are_shut_and_reopened(rt: HostRuntime) {
     assert_eq!(rt; plan.in_slot(3, 0), None);
     assert_eq!(rt; plan.out_slot(0, 0), Some(1));
     let figures = measure(&plan);
-    assert_eq!(rt; &figures.out_depths[0..4], &[1, 0, 0, 0]);
-    assert_eq!(rt; &figures.in_depths[0..4], &[0, 1, 0, 0]);
+    assert_eq!(rt; &figures.out_depths[0..4], [1, 0, 0, 0].as_slice());
+    assert_eq!(rt; &figures.in_depths[0..4], [0, 1, 0, 0].as_slice());
     assert_eq!(rt; plan.reopen(3), Ok(()));
     assert_eq!(rt; plan.reopen(2), Ok(()));
     assert_eq!(rt; plan.reopen(2), Ok(()));
-    assert_eq!(rt; &measure(&plan).out_depths[0..4], &[3, 2, 2, 0]);
+    assert_eq!(rt; &measure(&plan).out_depths[0..4], [3, 2, 2, 0].as_slice());
 }
 
 #[test]
@@ -72,13 +72,13 @@ fn layers_three_deep(rt: HostRuntime) {
     let mut below = Shut::over(ring(&rt));
     assert_eq!(rt; below.shut(3), Ok(()));
     let mut above = Shut::over(Turned::over(below));
-    assert_eq!(rt; &measure(&above).out_depths[0..4], &[2, 2, 2, 0]);
+    assert_eq!(rt; &measure(&above).out_depths[0..4], [2, 2, 2, 0].as_slice());
     assert_eq!(rt; above.shut(0), Ok(()));
     // what is left is 2→1
     let figures = measure(&above);
-    assert_eq!(rt; &figures.out_depths[0..4], &[0, 0, 1, 0]);
-    assert_eq!(rt; &figures.in_depths[0..4], &[0, 1, 0, 0]);
+    assert_eq!(rt; &figures.out_depths[0..4], [0, 0, 1, 0].as_slice());
+    assert_eq!(rt; &figures.in_depths[0..4], [0, 1, 0, 0].as_slice());
     assert_eq!(rt; figures.longest.from, 2);
     let back = Turned::over(Turned::over(Turned::over(ring(&rt))));
-    assert_eq!(rt; &measure(&back).out_depths[0..4], &[2, 2, 2, 3]);
+    assert_eq!(rt; &measure(&back).out_depths[0..4], [2, 2, 2, 3].as_slice());
 }

@@ -9,6 +9,7 @@ mod stop;
 use report::report;
 use request::Request;
 use std::io::{BufWriter, Write};
+use std::process::ExitCode;
 use std::{env, fs};
 use stop::Stop;
 
@@ -28,10 +29,11 @@ fn inspect(rt: &HostRuntime) -> Result<(), Stop> {
     Ok(())
 }
 
-fn main(rt: HostRuntime) -> Result<(), Stop> {
-    let done = inspect(&rt);
-    if let Err(stop) = &done {
-        eprintln!(rt; "{stop}")?;
-    }
-    done
+fn main(rt: HostRuntime) -> ExitCode {
+    let Err(stop) = inspect(&rt) else {
+        return ExitCode::SUCCESS;
+    };
+    // where standard error cannot be written either, the status alone says it
+    let _ = eprintln!(rt; "{stop}");
+    ExitCode::FAILURE
 }

@@ -88,7 +88,7 @@ mod tests {
             };
             assert_eq!(rt; request.path.as_str(), "town.log");
             assert!(rt; request.turned);
-            assert_eq!(rt; request.shut.as_slice(), &[2, 5]);
+            assert_eq!(rt; request.shut.as_slice(), [2, 5].as_slice());
         }
         let Ok(request) = read(rt.alloc(), "town.log") else {
             return Err(Fail::new("not read"));
@@ -129,7 +129,7 @@ mod tests {
         let Ok(request) = read(rt.alloc(), line) else {
             return Err(Fail::new("not read"));
         };
-        assert_eq!(rt; request.shut.as_slice(), &[65535, 65535, 65535]);
+        assert_eq!(rt; request.shut.as_slice(), [65535, 65535, 65535].as_slice());
         Ok(())
     }
 }

@@ -16,7 +16,7 @@ impl Outward for Log {
 
     ghost outgoing = { λ b. record { size = closures b; slots = leaving (history b) } };
 
-    ghost capped = { first_of (Prim.search rules, Prim.grind (arith, Self.row.coded.inj)) };
+    ghost capped = { Prim.search rules };
 
     ghost sound = { λ b.
         let f = b.few in

@@ -15,7 +15,7 @@ impl Outward for Rows {
 
     ghost outgoing = { λ b. listing b.out };
 
-    ghost capped = { first_of (Prim.search rules, Prim.grind (arith, Self.row.coded.inj)) };
+    ghost capped = { Prim.search rules };
 
     ghost sound = { λ b. turned_sound b.out b.into (sym b.level) (λ u v. subst T (sym (b.agrees u v))) };
 
@@ -51,7 +51,7 @@ impl TwoWay for Rows {
         subst (λ n. Sound 1024 (record { size = n; slots = (listing b.into).slots })) b.level
         (turned_sound b.into b.out b.level (λ v u. subst T (b.agrees u v))) };
 
-    ghost agrees = { first_of (Prim.search rules, Prim.grind (arith, Self.row.coded.inj)) };
+    ghost agrees = { Prim.search rules };
 
     fn in_slots(&self, v: u16) -> u16
         ensures { result ≡ length ((listing self.now.into).slots v) }
