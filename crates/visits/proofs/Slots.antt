@@ -1,5 +1,5 @@
 -- What a list of slots holds stands in one of its slots.
-use Rattle.std.proofs.Common.{◌≡◌, ℕ, zero, suc, ◌<◌, false, T, eqb, ◌⊎◌, List, [], ◌∷◌, length, Some, None, Option, sym, ap, subst, ⊎_elim, suc-le-suc, arith, eqb→eq}
+use Rattle.std.proofs.Common.{◌≡◌, ℕ, zero, suc, ◌<◌, false, T, eqb, List, [], ◌∷◌, length, Some, None, Option, sym, ap, subst, ⊎_elim, suc-le-suc, arith, eqb→eq}
 use lib.Dec.{eqb_refl}
 use Rattle.books.proofs.Truth.{or_first, or_second, either_of}
 use Rattle.books.specs.Listing.{Listing, Sound, slot, holds}
