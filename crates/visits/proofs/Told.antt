@@ -1,5 +1,5 @@
 -- What a visit tells, in the words of chains.
-use Rattle.std.proofs.Common.{◌≡◌, ℕ, ◌<◌, cond, T, eqb, ltb, List, map, get_or, IfOk, Some, None, Ok, Err, Option, Result, sym, refl, ap, ◌∙◌, subst, ⊎_elim, arith, eqb→eq}
+use Rattle.std.proofs.Common.{◌≡◌, ℕ, ◌<◌, cond, T, eqb, ltb, List, map, get_or, IfOk, Some, None, Ok, Err, Option, Result, sym, ap, ◌∙◌, subst, ⊎_elim, arith, eqb→eq}
 use lib.Dec.{eqb_refl}
 use Rattle.std.proofs.lemmas.List.FromFn.{get_or-map-range_with_len}
 use Rattle.std.proofs.lemmas.Bool.{cases_lt, cond_both, ltb-true}
@@ -63,6 +63,10 @@ module _ (p : Plan) (closed : Closed p) (start : ℕ) where
       })
       (out_tells (turned p) (turned_closed p closed) some start r e)
 
+-- the plan that incoming slots describe is the turned plan
+turned_plan : (l : Listing) (into : ℕ → List (Option ℕ)) → Agree l.slots into → plan (with_slots l into) ≡ turned (plan l)
+turned_plan l into agrees = λ i. record { size = l.size; leads = λ u v. agrees v u i }
+
 -- equal plans have equal visits
 same_visit : (p q : Plan) (start : ℕ) → Same p q → visited p start ≡ visited q start
 same_visit p q start h = ap (λ (x : Plan). visited x start) (λ i. record { size = h.size i; leads = λ u v. h.leads u v i })
@@ -71,7 +75,7 @@ same_visit p q start h = ap (λ (x : Plan). visited x start) (λ i. record { siz
 pub in_visit_right : {limit : ℕ} (l : Listing) (into : ℕ → List (Option ℕ)) (start : ℕ) (r : Result Visit Fault) → Sound limit l → Agree l.slots into → r ≡ visited (plan (with_slots l into)) start → (r ≡ approached (plan l) start) × (r ≡ visited (turned (plan l)) start) × ((m : Listing) → Same (plan m) (turned (plan l)) → r ≡ visited (plan m) start) × IfOk r (Tells (λ v d. Distance (plan l) v start d))
 in_visit_right l into start r sound agrees e =
     let closed = book_closed l sound in
-    let back : r ≡ visited (turned (plan l)) start = e ∙ same_visit (plan (with_slots l into)) (turned (plan l)) start (record { size = refl; leads = λ u v. agrees v u }) in
+    let back : r ≡ visited (turned (plan l)) start = e ∙ ap (λ (p : Plan). visited p start) (turned_plan l into agrees) in
     (back ∙ turned_visit (plan l) closed start, back, (λ m h. back ∙ sym (same_visit (plan m) (turned (plan l)) start h)), in_tells (plan l) closed start sound.some r back)
 
 -- ---- the lowest number at the depth
