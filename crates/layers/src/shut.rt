@@ -24,10 +24,8 @@ impl<B: TwoWay> Shut<B> {
         ensures all_open { (u : ℕ) → shuts result u ≡ false }
         ensures leaves { LeavesBoth (shuts result) (B.Outward.outgoing result.below) (B.TwoWay.incoming result.below) }
     {
-        Shut {
-            below,
-            marks: Marks::none(),
-        }
+        let marks = Marks::none();
+        Shut { below, marks }
     }
 
     // Shuts a closure; one that is shut stays so. Refused where c is no closure.
