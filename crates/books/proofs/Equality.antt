@@ -28,7 +28,7 @@ module _ (p q : Plan) where
 
   pub equal_same : Closed p → Closed q → T (equal p q) → Same p q
   unfolding equal differ at
-  equal_same in_p in-q t =
+  equal_same in_p in_q t =
       let h = and_parts (eqb p.size q.size) (not (any p.size (λ u. any p.size (at u)))) t in
       let size : p.size ≡ q.size = eqb→eq p.size q.size h.0 in
       let agree : (u v : ℕ) → u < p.size → v < p.size → p.leads u v ≡ q.leads u v =
@@ -37,7 +37,7 @@ module _ (p q : Plan) where
         size = size;
         leads = λ u v. same_test (p.leads u v) (q.leads u v)
             (λ l. let i = in_p u v l in subst T (agree u v i.0 i.1) l)
-            (λ l. let i = in-q u v l in subst T (sym (agree u v (omega (arith, i.0)) (omega (arith, i.1)))) l);
+            (λ l. let i = in_q u v l in subst T (sym (agree u v (omega (arith, i.0)) (omega (arith, i.1)))) l);
       }
 
   pub same_equal : Same p q → T (equal p q)

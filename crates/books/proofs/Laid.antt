@@ -63,12 +63,9 @@ slots_end starts ends z (suc k) f =
 
 -- the slots of the first closures end where the next one's begin
 filled_to : (n : ℕ) (starts ends : List ℕ) → length ends ≡ 4096 → 1 ≤ n → Ascends n starts → (k : ℕ) → k ≤ n → slots_below (listed n starts ends) k ≡ get_or starts k 0
-filled_to n starts ends room z a zero h = sym (a 0 (omega arith)).0
-filled_to n starts ends room z a (suc k) h =
-    let below = filled_to n starts ends room z a k (omega arith) in
-    let b = a k (omega arith) in
-    let c = count_is n k starts ends (omega arith) (omega (arith, b.2)) in
-    omega (arith, b.1)
+filled_to n starts ends room z a k h =
+    rows_below (listed n starts ends) (rowed (slots_at starts ends)) k (λ u i. listed_at n u starts ends (omega arith))
+    ∙ slots_end starts ends (a 0 (omega arith)).0 k (λ u i. let b = a u (omega arith) in (b.1, omega (arith, b.2)))
 
 pub filled_is : (a : Adjacency) → length a.ends ≡ 4096 → filled a ≡ get_or a.starts a.n 0
 unfolding filled

@@ -7,7 +7,7 @@ use Rattle.books.specs.Adjacent.{Bare, Grown, Lacking, Laid, Pushed, filled, lis
 use Rattle.books.proofs.Laid.{listed_past, rows_below}
 
 -- an answer that a test gives
-yes_below : (r : Bool) (a b : ℕ) → r ≡ ltb a b → a < b → T r
+pub yes_below : (r : Bool) (a b : ℕ) → r ≡ ltb a b → a < b → T r
 yes_below r a b e h =
     let t : r ≡ true = e ∙ lt-ltb a b h in
     subst T (sym t) tt

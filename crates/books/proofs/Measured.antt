@@ -20,7 +20,7 @@ measures_right p closed some =
       diameter_is = diameter_right p closed some;
       radius_is = λ site d. (radius_right p closed some site d, radius_only p closed some site d);
       no_radius = λ site. (no_radius_right p closed some site, no_radius_only p closed some site);
-      equal_is = λ q in-q. (equal_same p q closed in-q, same_equal p q);
+      equal_is = λ q in_q. (equal_same p q closed in_q, same_equal p q);
     }
 
 -- no span leaves a number that is no closure, and none leads to one

@@ -1,7 +1,7 @@
 -- The lists of a side, laid out along the chains.
-use Rattle.std.proofs.Common.{◌≡◌, ℕ, zero, suc, ◌+◌, ◌-◌, ◌<◌, ◌≤◌, Bool, true, T, ltb, List, [], ◌∷◌, ◌++◌, map, reverse, length, take, set, Some, sym, refl, ap, ◌∙◌, subst, ⊎_elim, arith}
+use Rattle.std.proofs.Common.{◌≡◌, ℕ, zero, suc, ◌+◌, ◌-◌, ◌<◌, ◌≤◌, List, [], ◌∷◌, ◌++◌, map, reverse, length, take, set, Some, sym, refl, ap, ◌∙◌, subst, ⊎_elim, arith}
 use Rattle.std.proofs.lemmas.List.{append_assoc, append-nil, reverse-append, take_more_set}
-use Rattle.std.proofs.lemmas.Bool.{cases_eq, lt-ltb}
+use Rattle.std.proofs.lemmas.Bool.{cases_eq}
 use Rattle.books.specs.declared.stored.Adjacency.{Adjacency}
 use Rattle.books.specs.Adjacent.{Bare, Grown, Pushed, filled, listing}
 use Rattle.logs.specs.declared.side.Side.{Side}
@@ -163,12 +163,6 @@ grown_laid s h u k a b d x =
       bare = λ v i. x.slots v ∙ d.bare v i;
       count = x.none ∙ d.count;
     }
-
--- an answer that a test gives
-pub yes_below : (r : Bool) (a b : ℕ) → r ≡ ltb a b → a < b → T r
-yes_below r a b e h =
-    let t : r ≡ true = e ∙ lt-ltb a b h in
-    subst T (sym t) tt
 
 -- ---- the spans in their order
 

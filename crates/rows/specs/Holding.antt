@@ -112,10 +112,10 @@ module _ (n : ℕ) (starts ends : List ℕ) (o : Ordered n starts ends) (a : Adj
 -- ---- both directions
 
 -- what is made of rows that keep the rules
-pub record Made (n : ℕ) (out-starts out-ends in-starts in-ends : List ℕ) (out into : Adjacency) : Type 0 where
-  pub kept : Kept n out-starts out-ends in-starts in-ends
-  pub leaving : Laid (slots_at out-starts out-ends) n out
-  pub arriving : Laid (slots_at in-starts in-ends) n into
+pub record Made (n : ℕ) (out_starts out_ends in_starts in_ends : List ℕ) (out into : Adjacency) : Type 0 where
+  pub kept : Kept n out_starts out_ends in_starts in_ends
+  pub leaving : Laid (slots_at out_starts out_ends) n out
+  pub arriving : Laid (slots_at in_starts in_ends) n into
 
 pub made_level : (n : ℕ) (s e t f : List ℕ) (out into : Adjacency) → Made n s e t f out into → (listing into).size ≡ (listing out).size
 made_level n s e t f out into m = m.arriving.size ∙ sym m.leaving.size

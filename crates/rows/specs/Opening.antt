@@ -11,23 +11,23 @@ use Rattle.rows.specs.Rules.{Broken, Kept, Lists}
 
 -- the number of closures with which the rules are kept, or a refusal where they are broken
 abbrev pub Judged : List ℕ → List ℕ → List ℕ → List ℕ → Result ℕ Fault → Type 0
-Judged out-starts out-ends in-starts in-ends r =
+Judged out_starts out_ends in_starts in_ends r =
     MatchResult r
-    (λ n. Kept n out-starts out-ends in-starts in-ends)
-    (λ e. (e ≡ BrokenRows) × Broken out-starts out-ends in-starts in-ends)
+    (λ n. Kept n out_starts out_ends in_starts in_ends)
+    (λ e. (e ≡ BrokenRows) × Broken out_starts out_ends in_starts in_ends)
 
-module _ {X : Type 0} (out-starts out-ends in-starts in-ends : List ℕ) (r : Result X Fault) where
+module _ {X : Type 0} (out_starts out_ends in_starts in_ends : List ℕ) (r : Result X Fault) where
   -- rows that keep the rules are opened
   abbrev pub Opens : Type 0
-  Opens = (n : ℕ) → Kept n out-starts out-ends in-starts in-ends → told r ≡ None
+  Opens = (n : ℕ) → Kept n out_starts out_ends in_starts in_ends → told r ≡ None
 
   -- the answer is right: the rules are kept and the rows have the slots of both listings, or they are broken and the rows
   -- are as before
   abbrev pub Verdict : Rows → Rows → Type 0
   Verdict before after =
       MatchResult r
-      (λ _. (n : ℕ) × Kept n out-starts out-ends in-starts in-ends × Laid (slots_at out-starts out-ends) n after.out × Laid (slots_at in-starts in-ends) n after.into)
-      (λ e. (e ≡ BrokenRows) × Broken out-starts out-ends in-starts in-ends × (after ≡ before))
+      (λ _. (n : ℕ) × Kept n out_starts out_ends in_starts in_ends × Laid (slots_at out_starts out_ends) n after.out × Laid (slots_at in_starts in_ends) n after.into)
+      (λ e. (e ≡ BrokenRows) × Broken out_starts out_ends in_starts in_ends × (after ≡ before))
 
 -- where rows were opened, a span leads from u to v exactly if a slot of u holds v in the outgoing listing
 abbrev pub Spans : {X : Type 0} → List ℕ → List ℕ → Result X Fault → Rows → Type 0

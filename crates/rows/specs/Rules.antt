@@ -6,12 +6,12 @@ abbrev pub Lists : List ℕ → List ℕ → ℕ → ℕ → Type 0
 Lists starts ends u v = (k : ℕ) × (slice_index starts u ≤ k) × (k < slice_index starts (suc u)) × (slice_index ends k ≡ v)
 
 -- n + 1 starts begin at 0 and never fall, and the last is at most 4,096 and at most the number of ends
-pub record Rising (n end-count : ℕ) (starts : List ℕ) : Type 0 where
+pub record Rising (n end_count : ℕ) (starts : List ℕ) : Type 0 where
   pub long : length starts ≡ suc n
   pub begins : slice_index_or starts 0 0 ≡ 0
   pub rises : (u : ℕ) → u < n → slice_index starts u ≤ slice_index starts (suc u)
   pub few : slice_index_or starts n 0 ≤ 4096
-  pub inside : slice_index_or starts n 0 ≤ end-count
+  pub inside : slice_index_or starts n 0 ≤ end_count
 
 -- one listing of n closures keeps the rules by itself: the ends in use, those before the last start, are closures
 pub record Ordered (n : ℕ) (starts ends : List ℕ) : Type 0 where
@@ -20,17 +20,17 @@ pub record Ordered (n : ℕ) (starts ends : List ℕ) : Type 0 where
 
 -- each span of one listing stands in the other
 abbrev pub Shown : List ℕ → List ℕ → List ℕ → List ℕ → Type 0
-Shown starts ends other-starts other-ends = (u v : ℕ) → Lists starts ends u v → Lists other-starts other-ends v u
+Shown starts ends other_starts other_ends = (u v : ℕ) → Lists starts ends u v → Lists other_starts other_ends v u
 
 -- all the rules
-pub record Kept (n : ℕ) (out-starts out-ends in-starts in-ends : List ℕ) : Type 0 where
+pub record Kept (n : ℕ) (out_starts out_ends in_starts in_ends : List ℕ) : Type 0 where
   pub some : 1 ≤ n
   pub most : n ≤ 1024
-  pub out : Ordered n out-starts out-ends
-  pub into : Ordered n in-starts in-ends
-  pub shown : Shown out-starts out-ends in-starts in-ends
-  pub shown_back : Shown in-starts in-ends out-starts out-ends
+  pub out : Ordered n out_starts out_ends
+  pub into : Ordered n in_starts in_ends
+  pub shown : Shown out_starts out_ends in_starts in_ends
+  pub shown_back : Shown in_starts in_ends out_starts out_ends
 
 -- no number of closures keeps them
 abbrev pub Broken : List ℕ → List ℕ → List ℕ → List ℕ → Type 0
-Broken out-starts out-ends in-starts in-ends = (n : ℕ) → Kept n out-starts out-ends in-starts in-ends → ⊥
+Broken out_starts out_ends in_starts in_ends = (n : ℕ) → Kept n out_starts out_ends in_starts in_ends → ⊥

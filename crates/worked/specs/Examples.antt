@@ -51,8 +51,8 @@ Holds (slots l lists) = map l.slots (range_with_len 0 l.size) ≡ lists
 Holds (compares p q same) = equal p q ≡ same
 Holds (opens bytes n spans) = Accepted bytes n (reverse spans)
 Holds (declines bytes number place) = Refused bytes number place
-Holds (takes n out-starts out-ends in-starts in-ends) = Kept n out-starts out-ends in-starts in-ends
-Holds (breaks out-starts out-ends in-starts in-ends) = Broken out-starts out-ends in-starts in-ends
+Holds (takes n out_starts out_ends in_starts in_ends) = Kept n out_starts out_ends in_starts in_ends
+Holds (breaks out_starts out_ends in_starts in_ends) = Broken out_starts out_ends in_starts in_ends
 
 -- every example of a list holds
 abbrev pub All : List Example → Type 0

@@ -2,7 +2,8 @@ use Rattle.std.proofs.Common.{◌≡◌, suc, ◌-◌, ap, ◌∙◌, arith}
 use Rattle.logs.specs.Opening.{end_at}
 use Rattle.logs.proofs.Canon.{newest_few}
 use Rattle.logs.specs.Placing.{column_few}
-use Rattle.logs.proofs.Following.{follow_end, follow_next, follow_on, follow_room, follow_start, yes_below}
+use Rattle.books.proofs.Laying.{yes_below}
+use Rattle.logs.proofs.Following.{follow_end, follow_next, follow_on, follow_room, follow_start}
 use Rattle.logs.proofs.index.follow.Goals as goal
 
 pub loop-link-init : goal.loop-link-init

@@ -1,7 +1,8 @@
 use Rattle.std.proofs.Common.{◌≡◌, suc, ◌+◌, subst, arith}
 use Rattle.logs.specs.Laying.{Laid}
 use Rattle.logs.specs.Opening.{spans_at}
-use Rattle.logs.proofs.Following.{bare_laid, grown_laid, yes_below}
+use Rattle.books.proofs.Laying.{yes_below}
+use Rattle.logs.proofs.Following.{bare_laid, grown_laid}
 use Rattle.logs.proofs.index.lay_out.Goals as goal
 
 pub follow-requires : goal.follow-requires

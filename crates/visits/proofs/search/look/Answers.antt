@@ -37,5 +37,5 @@ pub returns : goal.returns
 returns g c =
     let l = g.S.Spans.listing c.args.spans.now in
     let u = place c.args.search.now c.args.head in
-    let k-is : c.loop-k.k ≡ length (l.slots u) = omega (arith, c.slots-k-end.ensures) in
-    record { going = looked_all l _ _ _ _ _ (rw k-is at c.loop-k.invariant); start = c.loop-k.invariant.zero }
+    let k_is : c.loop-k.k ≡ length (l.slots u) = omega (arith, c.slots-k-end.ensures) in
+    record { going = looked_all l _ _ _ _ _ (rw k_is at c.loop-k.invariant); start = c.loop-k.invariant.zero }
