@@ -7,6 +7,9 @@ pub trait Outward {
     // The most closures that a book of this kind can have.
     const LIMIT: u16;
 
+    // The same, as contracts name it.
+    ghost LIMIT: { ℕ };
+
     ghost most: { ℕ };
 
     ghost outgoing: { Self → Listing };

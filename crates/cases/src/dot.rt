@@ -14,6 +14,8 @@ struct Dot {}
 impl Outward for Dot {
     const LIMIT: u16 = 1;
 
+    ghost LIMIT = { 1 };
+
     ghost most = { 1 };
 
     ghost outgoing = { λ _. record { size = 1; slots = λ _. [] } };

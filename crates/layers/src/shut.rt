@@ -21,6 +21,7 @@ impl<B: TwoWay> Shut<B> {
     // The plan of a book, with no closure shut yet.
     pub fn over(below: B) -> Shut<B>
         ensures below { result.below ≡ below }
+        ensures limit { ⟦<Shut<B> as Outward>⟧.LIMIT ≡ B.Outward.LIMIT }
         ensures all_open { (u : ℕ) → shuts result u ≡ false }
         ensures leaves { LeavesBoth (shuts result) (B.Outward.outgoing result.below) (B.TwoWay.incoming result.below) }
     {
@@ -73,6 +74,8 @@ impl<B: TwoWay> Shut<B> {
 
 impl<B: TwoWay> Outward for Shut<B> {
     const LIMIT: u16 = B::LIMIT;
+
+    ghost LIMIT = { B.Outward.LIMIT };
 
     ghost most = { B.Outward.most };
 

@@ -16,6 +16,7 @@ impl<B: TwoWay> Turned<B> {
     // Turns the plan of a book.
     pub fn over(below: B) -> Turned<B>
         ensures below { result.below ≡ below }
+        ensures limit { ⟦<Turned<B> as Outward>⟧.LIMIT ≡ B.Outward.LIMIT }
         ensures plan { Same (plan (with_slots (B.Outward.outgoing result.below) (B.TwoWay.incoming result.below))) (turned (plan (B.Outward.outgoing below))) }
     {
         Turned { below }
@@ -24,6 +25,8 @@ impl<B: TwoWay> Turned<B> {
 
 impl<B: TwoWay> Outward for Turned<B> {
     const LIMIT: u16 = B::LIMIT;
+
+    ghost LIMIT = { B.Outward.LIMIT };
 
     ghost most = { B.Outward.most };
 

@@ -12,6 +12,8 @@ use books::book::{Outward, TwoWay};
 impl Outward for Log {
     const LIMIT: u16 = 1024;
 
+    ghost LIMIT = { 1024 };
+
     ghost most = { 1024 };
 
     ghost outgoing = { λ b. record { size = closures b; slots = leaving (history b) } };

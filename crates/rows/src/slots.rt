@@ -11,6 +11,8 @@ use books::book::{Outward, TwoWay};
 impl Outward for Rows {
     const LIMIT: u16 = 1024;
 
+    ghost LIMIT = { 1024 };
+
     ghost most = { 1024 };
 
     ghost outgoing = { λ b. listing b.out };

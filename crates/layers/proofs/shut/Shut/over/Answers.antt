@@ -7,6 +7,7 @@ pub returns : goal.returns
 returns g c =
     record {
       below = refl;
+      limit = refl;
       all_open = c.none-marks.ensures;
       leaves = leaves_both (shuts (record { below = c.args.below; marks = c.none-marks.result })) (g.B.Outward.outgoing c.args.below) (g.B.TwoWay.incoming c.args.below);
     }
