@@ -1,50 +1,75 @@
--- Adjacency lists in their arrays: how slots are read, and how a closure or a slot is added.
-use Rattle.std.proofs.Common.{◌≡◌, ℕ, zero, suc, ◌+◌, ◌-◌, ◌<◌, ◌≤◌, T, List, [], ◌∷◌, ◌++◌, map, length, get_or, drop, set, Some, None, Option, sym, refl, ap, ◌∙◌, ⊎_elim, arith, length-set, get_or-set_other, get_or-set_same}
+-- Adjacency lists in their tables: how slots are read, and how a closure or a slot is added.
+use Rattle.std.proofs.Common.{◌≡◌, Bor, ℕ, zero, suc, ◌+◌, ◌-◌, ◌<◌, ◌≤◌, T, List, [], ◌∷◌, ◌++◌, map, length, get_or, drop, Some, None, Option, IsSome, sym, refl, ap, ◌∙◌, ⊎_elim, arith}
+use Rattle.std.specs.Option.{option_copied, option_to_list}
+use Rattle.std.specs.Prelude.{slice_get}
+use Rattle.std.specs.Slice.{IsItemAt}
+use Rattle.std.proofs.lemmas.Option.{slice_get_past, slice_get_read}
 use Rattle.std.specs.List.{between}
-use Rattle.std.proofs.lemmas.List.{length-map, length-take, map-append, take-set-le}
-use Rattle.std.proofs.lemmas.List.Edits.{length-between, get_or-between, between_none, between_more}
+use Rattle.std.proofs.lemmas.List.{get_or_past, get_or_append_left, get_or-append_right, get_or_default, length-append, length-map, map-append, take-append-le}
+use Rattle.std.proofs.Math.Seq.{get_or-append_seam}
+use Rattle.std.proofs.lemmas.List.Edits.{length-between, between_none, between_more}
 use Rattle.std.proofs.lemmas.Slice.{between_is}
-use Rattle.std.proofs.lemmas.Bool.{cases_eq, cases_lt, cond-true, cond-false, lt-ltb, le-ltb}
-use Rattle.books.specs.Listing.{Listing, Sound, holds, slot}
+use Rattle.std.proofs.lemmas.Bool.{cases_eq, cases_lt, false≢true}
+use Rattle.books.specs.Listing.{Sound, holds, slot}
 use Rattle.books.specs.declared.stored.Adjacency.{Adjacency}
-use Rattle.books.specs.Adjacent.{Bare, filled, listing, rowed, slots_below}
-use Rattle.books.specs.Tables.{Ascends, listed, slots_at}
+use Rattle.books.specs.Adjacent.{Bare, Grown, Pushed, filled, listing, slots_below}
+use Rattle.books.specs.Tables.{Ascends, cut, part}
 
-pub listed_at : (n u : ℕ) (starts ends : List ℕ) → u < n → (listed n starts ends).slots u ≡ map Some (between (get_or starts u 0) (get_or starts (suc u) 0) ends)
-listed_at n u starts ends h = cond-true _ _ _ (lt-ltb u n h)
+-- ---- how slots are read
 
-pub listed_past : (n u : ℕ) (starts ends : List ℕ) → n ≤ u → (listed n starts ends).slots u ≡ []
-listed_past n u starts ends h = cond-false _ _ _ (le-ltb u n h)
+-- the slots that tables hold
+abbrev pub slots_in : List ℕ → List ℕ → ℕ → List (Option ℕ)
+slots_in starts ends = part (cut starts (length ends)) ends
 
-pub count_is : (n u : ℕ) (starts ends : List ℕ) → u < n → get_or starts (suc u) 0 ≤ length ends → length ((listed n starts ends).slots u) ≡ get_or starts (suc u) 0 - get_or starts u 0
-count_is n u starts ends h l =
-    ap length (listed_at n u starts ends h) ∙ length-map (between (get_or starts u 0) (get_or starts (suc u) 0) ends) Some ∙ length-between ends (get_or starts u 0) (get_or starts (suc u) 0) l
+-- past the last start there are no slots
+none_past : (starts ends : List ℕ) (u : ℕ) → length starts ≤ u → slots_in starts ends u ≡ []
+none_past starts ends u h =
+    rw (get_or_past starts u (length ends) h, get_or_past starts (suc u) (length ends) (omega arith))
+    (ap (map Some) (between_none ends (length ends)))
 
-slot_some : (xs : List ℕ) (k : ℕ) → k < length xs → slot (map Some xs) k ≡ Some (get_or xs k 0)
-slot_some [] k h = absurd (omega arith)
-slot_some (x ∷ xs) zero h = refl
-slot_some (x ∷ xs) (suc k) h = slot_some xs k (omega arith)
+-- from the last start on, every cut is the end of all slots
+cut_past : (a : Adjacency) (u : ℕ) → (listing a).size ≤ u → cut a.starts.items (length a.ends.items) u ≡ length a.ends.items
+cut_past a u h =
+    ⊎_elim
+    (λ (e : u ≡ (listing a).size). rw e a.last)
+    (λ (e : u ≡ (listing a).size → ⊥). get_or_past a.starts.items u (length a.ends.items) (omega arith))
+    (cases_eq u (listing a).size)
 
-slot_none : (xs : List (Option ℕ)) (k : ℕ) → length xs ≤ k → slot xs k ≡ None
-slot_none [] k h = refl
-slot_none (x ∷ xs) zero h = absurd (omega arith)
-slot_none (x ∷ xs) (suc k) h = slot_none xs k (omega arith)
+-- a closure past the last has no slots
+pub listed_past : (a : Adjacency) (u : ℕ) → (listing a).size ≤ u → (listing a).slots u ≡ []
+listed_past a u h =
+    rw (cut_past a u h, cut_past a (suc u) (omega arith)) (ap (map Some) (between_none a.ends.items (length a.ends.items)))
 
-pub pick_past : (n u k : ℕ) (starts ends : List ℕ) → u < n → get_or starts (suc u) 0 ≤ length ends → get_or starts (suc u) 0 - get_or starts u 0 ≤ k → slot ((listed n starts ends).slots u) k ≡ None
-pick_past n u k starts ends h l f =
-    let c = count_is n u starts ends h l in
-    slot_none ((listed n starts ends).slots u) k (omega arith)
+-- the slots of a closure are a part of the ends
+pub row_inside : (a : Adjacency) (u : ℕ) → u + 1 < length a.starts.items → (get_or a.starts.items u 0 ≤ get_or a.starts.items (u + 1) 0) × (get_or a.starts.items (u + 1) 0 ≤ length a.ends.items)
+row_inside a u h =
+    let end = length a.ends.items in
+    let e : suc u ≡ u + 1 = omega arith in
+    let n = ap (λ k. cut a.starts.items end k) e in
+    let from = get_or_default a.starts.items u 0 end (omega arith) in
+    let to = get_or_default a.starts.items (u + 1) 0 end h in
+    (omega (arith, (a.ascends.1 u).0), omega (arith, (a.ascends.1 (suc u)).1))
 
-pub pick_is : (n u k : ℕ) (starts ends : List ℕ) → u < n → get_or starts (suc u) 0 ≤ length ends → k < get_or starts (suc u) 0 - get_or starts u 0 → slot ((listed n starts ends).slots u) k ≡ Some (get_or ends (get_or starts u 0 + k) 0)
-pick_is n u k starts ends h l f =
-    let part = between (get_or starts u 0) (get_or starts (suc u) 0) ends in
-    let c = length-between ends (get_or starts u 0) (get_or starts (suc u) 0) l in
-    ap (λ x. slot x k) (listed_at n u starts ends h)
-    ∙ slot_some part k (omega arith)
-    ∙ ap Some (get_or-between ends (get_or starts u 0) (get_or starts (suc u) 0) k 0 (omega arith))
+-- a slot is read as an item is
+pub slot_is : (xs : List ℕ) (k : ℕ) → slot (map Some xs) k ≡ slice_get xs k
+slot_is [] k = refl
+slot_is (x ∷ xs) zero = refl
+slot_is (x ∷ xs) (suc k) = slot_is xs k
+
+-- the item that a slice lends
+pub copied_item : {X : Type 0} (xs : List X) (k : ℕ) (r : Option (Bor X)) → IsItemAt xs k r → option_copied r ≡ slice_get xs k
+copied_item xs k None i = sym (slice_get_past xs k i.3)
+copied_item xs k (Some x) i = sym (slice_get_read xs (length xs) k x.now refl i.3.0 i.1)
+
+-- one item, and the same past it
+one_or : (x k : ℕ) → get_or (x ∷ []) k x ≡ x
+one_or x zero = refl
+one_or x (suc k) = refl
+
+-- ---- how many slots there are
 
 -- equal rows have as many slots
-pub rows_below : (l m : Listing) (k : ℕ) → ((u : ℕ) → u < k → l.slots u ≡ m.slots u) → slots_below l k ≡ slots_below m k
+pub rows_below : (l m : ℕ → List (Option ℕ)) (k : ℕ) → ((u : ℕ) → u < k → l u ≡ m u) → slots_below l k ≡ slots_below m k
 rows_below l m zero h = refl
 rows_below l m (suc k) h =
     let b = rows_below l m k (λ u i. h u (omega arith)) in
@@ -52,176 +77,190 @@ rows_below l m (suc k) h =
     omega arith
 
 -- the slots of the first rows end where the next one's begin
-pub slots_end : (starts ends : List ℕ) → get_or starts 0 0 ≡ 0 → (k : ℕ) → ((u : ℕ) → u < k → (get_or starts u 0 ≤ get_or starts (suc u) 0) × (get_or starts (suc u) 0 ≤ length ends)) → slots_below (rowed (slots_at starts ends)) k ≡ get_or starts k 0
-slots_end starts ends z zero f = sym z
-slots_end starts ends z (suc k) f =
-    let b = slots_end starts ends z k (λ u h. f u (omega arith)) in
+pub slots_end : (at : ℕ → ℕ) (ends : List ℕ) → at 0 ≡ 0 → (k : ℕ) → ((u : ℕ) → u < k → (at u ≤ at (suc u)) × (at (suc u) ≤ length ends)) → slots_below (part at ends) k ≡ at k
+slots_end at ends z zero f = sym z
+slots_end at ends z (suc k) f =
+    let b = slots_end at ends z k (λ u h. f u (omega arith)) in
     let r = f k (omega arith) in
-    let m = length-map (between (get_or starts k 0) (get_or starts (suc k) 0) ends) Some in
-    let l = length-between ends (get_or starts k 0) (get_or starts (suc k) 0) r.1 in
+    let m = length-map (between (at k) (at (suc k)) ends) Some in
+    let l = length-between ends (at k) (at (suc k)) r.1 in
     omega (arith, r.0)
 
--- the slots of the first closures end where the next one's begin
-filled_to : (n : ℕ) (starts ends : List ℕ) → length ends ≡ 4096 → 1 ≤ n → Ascends n starts → (k : ℕ) → k ≤ n → slots_below (listed n starts ends) k ≡ get_or starts k 0
-filled_to n starts ends room z a k h =
-    rows_below (listed n starts ends) (rowed (slots_at starts ends)) k (λ u i. listed_at n u starts ends (omega arith))
-    ∙ slots_end starts ends (a 0 (omega arith)).0 k (λ u i. let b = a u (omega arith) in (b.1, omega (arith, b.2)))
-
-pub filled_is : (a : Adjacency) → length a.ends ≡ 4096 → filled a ≡ get_or a.starts a.n 0
+-- there are as many slots as ends
+pub filled_is : (a : Adjacency) → filled a ≡ length a.ends.items
 unfolding filled
-filled_is a room = filled_to a.n a.starts a.ends room a.few.0 a.ascends a.n (omega arith)
+filled_is a =
+    let n = (listing a).size in
+    slots_end (cut a.starts.items (length a.ends.items)) a.ends.items a.ascends.0 n (λ u i. ((a.ascends.1 u).0, (a.ascends.1 (suc u)).1))
+    ∙ cut_past a n (omega arith)
 
--- what becomes of the end of the slots becomes of their number
-pub filled_by : (f : ℕ → ℕ) (a b : Adjacency) → length a.ends ≡ 4096 → length b.ends ≡ 4096 → get_or b.starts b.n 0 ≡ f (get_or a.starts a.n 0) → filled b ≡ f (filled a)
-filled_by f a b l m e = filled_is b m ∙ e ∙ ap f (sym (filled_is a l))
+-- what a pop takes off the end
+pub popped : (xs front : List ℕ) (r : Option ℕ) → xs ≡ front ++ option_to_list r → IsSome r → (x : ℕ) × (xs ≡ front ++ x ∷ [])
+popped xs front None e s = absurd (false≢true s)
+popped xs front (Some x) e s = (x, e)
 
 -- ---- no slots
 
-one_bare : (starts ends : List ℕ) → get_or starts 0 0 ≡ get_or starts 1 0 → (u : ℕ) → (listed 1 starts ends).slots u ≡ []
-one_bare starts ends e u =
-    ⊎_elim
-    (λ (h : u < 1).
-    let z : u ≡ 0 = omega arith in
-    let none : between (get_or starts 0 0) (get_or starts 1 0) ends ≡ [] = rw e (between_none ends (get_or starts 1 0)) in
-    rw z (ap (map Some) none))
-    (λ (h : 1 ≤ u). listed_past 1 u starts ends h)
-    (cases_lt u 1)
+bare_cut : (u : ℕ) → cut (0 ∷ 0 ∷ []) 0 u ≡ 0
+bare_cut zero = refl
+bare_cut (suc zero) = refl
+bare_cut (suc (suc u)) = refl
 
-pub bare : (a : Adjacency) → a.n ≡ 1 → get_or a.starts 0 0 ≡ 0 → get_or a.starts 1 0 ≡ 0 → Bare a
-unfolding filled
-bare a one z e =
-    let empty : (u : ℕ) → (listing a).slots u ≡ [] = λ u. ap (λ n. (listed n a.starts a.ends).slots u) one ∙ one_bare a.starts a.ends (z ∙ sym e) u in
-    let l = ap length (empty 0) in
-    record { size = one; slots = empty; none = ap (slots_below (listing a)) one ∙ omega arith }
+pub bare : (a : Adjacency) → a.starts.items ≡ 0 ∷ 0 ∷ [] → a.ends.items ≡ [] → Bare a
+bare a s e =
+    record {
+      size = ap (λ xs. length xs - 1) s;
+      slots = λ u.
+          ap (λ xs. slots_in xs a.ends.items u) s
+          ∙ ap (λ xs. slots_in (0 ∷ 0 ∷ []) xs u) e
+          ∙ rw (bare_cut u, bare_cut (suc u)) (ap (map Some) (between_none [] 0));
+      none = filled_is a ∙ ap length e;
+    }
 
 -- ---- one closure more
 
-module _ (n : ℕ) (starts ends : List ℕ) (few : n < 1024) (long : length starts ≡ 1025) (a : Ascends n starts) where
-  more : List ℕ
-  more = set starts (n + 1) (get_or starts n 0)
-
-  grown_start : (u : ℕ) → u ≤ n → get_or more u 0 ≡ get_or starts u 0
-  unfolding more
-  grown_start u h = get_or-set_other starts (n + 1) u (get_or starts n 0) 0 (λ e. omega arith)
-
-  pub grown_end : get_or (set starts (n + 1) (get_or starts n 0)) (n + 1) 0 ≡ get_or starts n 0
-  grown_end = get_or-set_same starts (n + 1) (get_or starts n 0) 0 (omega arith)
-
-  pub grown_ascends : 1 ≤ n → Ascends (n + 1) (set starts (n + 1) (get_or starts n 0))
-  unfolding more
-  grown_ascends some u h =
-      let z = grown_start 0 (omega arith) ∙ (a 0 (omega arith)).0 in
+module _ (starts : List ℕ) (end : ℕ) where
+  -- every cut stays
+  pub grown_cut : (u : ℕ) → cut (starts ++ end ∷ []) end u ≡ cut starts end u
+  grown_cut u =
       ⊎_elim
-      (λ (e : u ≡ n). let s : suc u ≡ n + 1 = omega arith in let i = grown_start u (omega arith) in let j = ap (λ x. get_or more x 0) s ∙ grown_end in let k = ap (λ x. get_or starts x 0) e in let w : suc (n - 1) ≡ n = omega arith in let b = ap (λ x. get_or starts x 0) w in let l = (a (n - 1) (omega arith)).2 in (z, omega arith, omega arith))
-      (λ (e : u ≡ n → ⊥). let i = grown_start u (omega arith) in let j = grown_start (suc u) (omega arith) in let k = a u (omega arith) in (z, omega (arith, k.1), omega (arith, k.2)))
-      (cases_eq u n)
+      (λ (h : u < length starts). get_or_append_left starts (end ∷ []) end u h)
+      (λ (h : length starts ≤ u). get_or-append_right starts (end ∷ []) (length starts) u end refl h ∙ one_or end (u - length starts) ∙ sym (get_or_past starts u end h))
+      (cases_lt u (length starts))
 
-  pub grown_slots : (u : ℕ) → (listed (n + 1) (set starts (n + 1) (get_or starts n 0)) ends).slots u ≡ (listed n starts ends).slots u
-  unfolding more
-  grown_slots u =
-      ⊎_elim
-      (λ (h : u < n). listed_at (n + 1) u more ends (omega arith) ∙ rw (grown_start u (omega arith), grown_start (suc u) (omega arith)) (sym (listed_at n u starts ends h)))
-      (λ (h : n ≤ u).
-      ⊎_elim
-      (λ (e : u ≡ n).
-      let s : suc u ≡ n + 1 = omega arith in
-      let empty : between (get_or more u 0) (get_or more (suc u) 0) ends ≡ [] = rw (grown_start u (omega arith), s, grown_end, e) (between_none ends (get_or starts n 0)) in
-      listed_at (n + 1) u more ends (omega arith) ∙ ap (map Some) empty ∙ sym (listed_past n u starts ends h))
-      (λ (e : u ≡ n → ⊥). listed_past (n + 1) u more ends (omega arith) ∙ sym (listed_past n u starts ends h))
-      (cases_eq u n))
-      (cases_lt u n)
+  pub grown_ascends : Ascends starts end → Ascends (starts ++ end ∷ []) end
+  grown_ascends a = (grown_cut 0 ∙ a.0, λ u. (omega (arith, grown_cut u, grown_cut (suc u), (a.1 u).0), omega (arith, grown_cut u, (a.1 u).1)))
+
+grown_in : (starts ends : List ℕ) (u : ℕ) → slots_in (starts ++ length ends ∷ []) ends u ≡ slots_in starts ends u
+grown_in starts ends u = rw (grown_cut starts (length ends) u, grown_cut starts (length ends) (suc u)) refl
+
+-- one start more at the end is the last
+pub grown_last : (starts : List ℕ) (end : ℕ) → cut (starts ++ end ∷ []) end (length (starts ++ end ∷ []) - 1) ≡ end
+grown_last starts end =
+    let l : length (starts ++ end ∷ []) - 1 ≡ length starts = omega (arith, length-append starts (end ∷ [])) in
+    rw (l, get_or-append_seam starts end [] end) refl
+
+pub grown : (a b : Adjacency) → b.ends ≡ a.ends → b.starts.items ≡ a.starts.items ++ length a.ends.items ∷ [] → Grown a b
+grown a b e s =
+    let l = ap length s ∙ length-append a.starts.items (length a.ends.items ∷ []) in
+    record {
+      size = omega (arith, a.few.0);
+      slots = λ u.
+          ap (λ xs. slots_in b.starts.items xs.items u) e
+          ∙ ap (λ xs. slots_in xs a.ends.items u) s
+          ∙ grown_in a.starts.items a.ends.items u;
+      none = filled_is b ∙ ap (λ xs. length xs.items) e ∙ sym (filled_is a);
+    }
 
 -- ---- one slot more
 
-ascends_to : (n : ℕ) (starts : List ℕ) → Ascends n starts → (d u : ℕ) → u + d ≤ n → get_or starts u 0 ≤ get_or starts (u + d) 0
-ascends_to n starts a zero u h = let z : u + 0 ≡ u = omega arith in rw z (omega arith)
-ascends_to n starts a (suc d) u h =
-    let z : u + suc d ≡ suc (u + d) = omega arith in
-    let b = ascends_to n starts a d u (omega arith) in
-    let k = (a (u + d) (omega arith)).1 in
-    rw z (omega arith)
+module _ (starts ends : List ℕ) (v : ℕ) (some : 1 ≤ length starts) (a : Ascends starts (length ends)) where
+  -- the cuts of closures stay
+  pushed_cut : (u : ℕ) → u < length starts → cut starts (length (ends ++ v ∷ [])) u ≡ cut starts (length ends) u
+  pushed_cut u h = get_or_default starts u (length (ends ++ v ∷ [])) (length ends) h
 
-between_unset : (xs : List ℕ) (a b i v : ℕ) → b ≤ i → between a b (set xs i v) ≡ between a b xs
-between_unset xs a b i v h =
-    between_is (set xs i v) a b ∙ ap (drop a) (take-set-le b xs i v h) ∙ sym (between_is xs a b)
+  pushed_end : (u : ℕ) → length starts ≤ u → cut starts (length (ends ++ v ∷ [])) u ≡ length ends + 1
+  pushed_end u h = get_or_past starts u (length (ends ++ v ∷ [])) h ∙ length-append ends (v ∷ [])
 
-module _ (n : ℕ) (starts ends : List ℕ) (v : ℕ) (some : 1 ≤ n) (few : n ≤ 1024) (long : length starts ≡ 1025) (room : length ends ≡ 4096) (a : Ascends n starts) (free : get_or starts n 0 < 4096) where
-  at : ℕ
-  at = get_or starts n 0
-
-  to : List ℕ
-  to = set starts n (at + 1)
-
-  pushed_start : (u : ℕ) → (u ≡ n → ⊥) → get_or to u 0 ≡ get_or starts u 0
-  unfolding to at
-  pushed_start u ne = get_or-set_other starts n u (get_or starts n 0 + 1) 0 ne
-
-  pub pushed_end : get_or (set starts n (get_or starts n 0 + 1)) n 0 ≡ get_or starts n 0 + 1
-  pushed_end = get_or-set_same starts n (get_or starts n 0 + 1) 0 (omega arith)
-
-  before : (u : ℕ) → u ≤ n → get_or starts u 0 ≤ get_or starts n 0
-  before u h = let z : u + (n - u) ≡ n = omega arith in rw z at (ascends_to n starts a (n - u) u (omega arith))
-
-  pub pushed_ascends : Ascends n (set starts n (get_or starts n 0 + 1))
-  unfolding to at
-  pushed_ascends u h =
-      let z = pushed_start 0 (λ e. omega arith) ∙ (a 0 (omega arith)).0 in
-      let i = pushed_start u (λ e. omega arith) in
-      let k = a u h in
+  pub pushed_ascends : Ascends starts (length (ends ++ v ∷ []))
+  pushed_ascends =
+      let l = length-append ends (v ∷ []) in
+      let at : (u : ℕ) → (cut starts (length (ends ++ v ∷ [])) u ≤ cut starts (length (ends ++ v ∷ [])) (suc u)) × (cut starts (length (ends ++ v ∷ [])) u ≤ length (ends ++ v ∷ [])) =
+      λ u.
       ⊎_elim
-      (λ (e : suc u ≡ n). let j = ap (λ x. get_or to x 0) e ∙ pushed_end in let l = before u (omega arith) in (z, omega arith, omega arith))
-      (λ (e : suc u ≡ n → ⊥). let j = pushed_start (suc u) e in (z, omega (arith, k.1), omega (arith, k.2)))
-      (cases_eq (suc u) n)
+      (λ (h : u < length starts).
+      ⊎_elim
+      (λ (i : suc u < length starts). (omega (arith, pushed_cut u h, pushed_cut (suc u) i, (a.1 u).0), omega (arith, pushed_cut u h, (a.1 u).1)))
+      (λ (i : length starts ≤ suc u). (omega (arith, pushed_cut u h, pushed_end (suc u) i, (a.1 u).1), omega (arith, pushed_cut u h, (a.1 u).1)))
+      (cases_lt (suc u) (length starts)))
+      (λ (h : length starts ≤ u). (omega (arith, pushed_end u h, pushed_end (suc u) (omega arith)), omega (arith, pushed_end u h)))
+      (cases_lt u (length starts)) in
+      (pushed_cut 0 (omega arith) ∙ a.0, at)
 
-  pub pushed_last : (u : ℕ) → n ≡ suc u → (listed n (set starts n (get_or starts n 0 + 1)) (set ends (get_or starts n 0) v)).slots u ≡ (listed n starts ends).slots u ++ (Some v ∷ [])
-  unfolding to at
+  -- what lies before the new end stays
+  before_end : (i j : ℕ) → j ≤ length ends → between i j (ends ++ v ∷ []) ≡ between i j ends
+  before_end i j h =
+      between_is (ends ++ v ∷ []) i j ∙ ap (drop i) (take-append-le j ends (v ∷ []) h) ∙ sym (between_is ends i j)
+
+  pub pushed_last : (u : ℕ) → length starts ≡ suc u → slots_in starts (ends ++ v ∷ []) u ≡ slots_in starts ends u ++ Some v ∷ []
   pushed_last u e =
-      let i = pushed_start u (λ q. omega arith) in
-      let j : get_or to (suc u) 0 ≡ get_or starts n 0 + 1 = ap (λ x. get_or to x 0) (sym e) ∙ pushed_end in
-      let k : get_or starts (suc u) 0 ≡ get_or starts n 0 = ap (λ x. get_or starts x 0) (sym e) in
-      let new = set ends (get_or starts n 0) v in
-      let l = length-set ends (get_or starts n 0) v in
-      let m = between_more new (get_or starts u 0) (get_or starts n 0) 0 (before u (omega arith)) (omega arith) in
-      let w : get_or new (get_or starts n 0) 0 ≡ v = get_or-set_same ends (get_or starts n 0) v 0 (omega arith) in
-      let o = between_unset ends (get_or starts u 0) (get_or starts n 0) (get_or starts n 0) v (omega arith) in
-      let whole : between (get_or to u 0) (get_or to (suc u) 0) new ≡ between (get_or starts u 0) (get_or starts (suc u) 0) ends ++ (v ∷ []) = rw (i, j, k) (m ∙ rw (w, o)) in
-      listed_at n u to new (omega arith) ∙ ap (map Some) whole ∙ map-append Some (between (get_or starts u 0) (get_or starts (suc u) 0) ends) (v ∷ [])
-      ∙ ap (λ x. x ++ (Some v ∷ [])) (sym (listed_at n u starts ends (omega arith)))
+      let from = cut starts (length ends) u in
+      let low = (a.1 u).1 in
+      let l = length-append ends (v ∷ []) in
+      let more = between_more (ends ++ v ∷ []) from (length ends) 0 low (omega arith) in
+      let whole : between from (length ends + 1) (ends ++ v ∷ []) ≡ between from (length ends) ends ++ v ∷ [] =
+      more ∙ rw (before_end from (length ends) (omega arith), get_or-append_seam ends v [] 0) refl in
+      let old : cut starts (length ends) (suc u) ≡ length ends = get_or_past starts (suc u) (length ends) (omega arith) in
+      rw (pushed_cut u (omega arith), pushed_end (suc u) (omega arith), old)
+      (ap (map Some) whole ∙ map-append Some (between from (length ends) ends) (v ∷ []))
 
-  pub pushed_others : (u : ℕ) → (n ≡ suc u → ⊥) → (listed n (set starts n (get_or starts n 0 + 1)) (set ends (get_or starts n 0) v)).slots u ≡ (listed n starts ends).slots u
-  unfolding to at
+  pub pushed_others : (u : ℕ) → (length starts ≡ suc u → ⊥) → slots_in starts (ends ++ v ∷ []) u ≡ slots_in starts ends u
   pushed_others u ne =
       ⊎_elim
-      (λ (h : u < n).
-      let i = pushed_start u (λ q. omega arith) in
-      let j = pushed_start (suc u) (λ q. ne (sym q)) in
-      let o = between_unset ends (get_or starts u 0) (get_or starts (suc u) 0) (get_or starts n 0) v (before (suc u) (omega arith)) in
-      listed_at n u to (set ends (get_or starts n 0) v) h ∙ ap (map Some) (rw (i, j) o) ∙ sym (listed_at n u starts ends h))
-      (λ (h : n ≤ u). listed_past n u to (set ends (get_or starts n 0) v) h ∙ sym (listed_past n u starts ends h))
-      (cases_lt u n)
+      (λ (h : suc u < length starts).
+      let at = pushed_cut u (omega arith) in
+      let to = pushed_cut (suc u) h in
+      rw (at, to) (ap (map Some) (before_end (cut starts (length ends) u) (cut starts (length ends) (suc u)) (a.1 (suc u)).1)))
+      (λ (h : length starts ≤ suc u). none_past starts (ends ++ v ∷ []) u (omega arith) ∙ sym (none_past starts ends u (omega arith)))
+      (cases_lt (suc u) (length starts))
+
+-- the last start moves with the end of all slots
+module _ (a : Adjacency) (front : List ℕ) (x v : ℕ) (is : a.starts.items ≡ front ++ x ∷ []) where
+  moved_last : x ≡ length a.ends.items
+  moved_last =
+      let end = length a.ends.items in
+      let l : length (front ++ x ∷ []) - 1 ≡ length front = omega (arith, length-append front (x ∷ [])) in
+      sym (get_or-append_seam front x [] end) ∙ sym (ap (λ k. get_or (front ++ x ∷ []) k end) l) ∙ sym (ap (λ xs. cut xs end (length xs - 1)) is) ∙ a.last
+
+  moved_is : a.starts.items ≡ front ++ length a.ends.items ∷ []
+  moved_is = is ∙ ap (λ y. front ++ y ∷ []) moved_last
+
+  moved_some : 1 ≤ length front
+  moved_some = let l = ap length is in omega (arith, length-append front (x ∷ []), a.few.0)
+
+  moved_front : Ascends front (length a.ends.items)
+  moved_front =
+      let end = length a.ends.items in
+      let same : (u : ℕ) → cut a.starts.items end u ≡ cut front end u = λ u. ap (λ xs. cut xs end u) moved_is ∙ grown_cut front end u in
+      (sym (same 0) ∙ a.ascends.0, λ u. (omega (arith, same u, same (suc u), (a.ascends.1 u).0), omega (arith, same u, (a.ascends.1 u).1)))
+
+  pub moved_ascends : Ascends (front ++ length (a.ends.items ++ v ∷ []) ∷ []) (length (a.ends.items ++ v ∷ []))
+  moved_ascends = grown_ascends front (length (a.ends.items ++ v ∷ [])) (pushed_ascends front a.ends.items v moved_some moved_front)
+
+  pub moved_few : (y : ℕ) → (2 ≤ length (front ++ y ∷ [])) × (length (front ++ y ∷ []) ≤ 1025)
+  moved_few y =
+      let l = ap length is in
+      let m = length-append front (x ∷ []) in
+      let n = length-append front (y ∷ []) in
+      (omega (arith, a.few.0), omega (arith, a.few.1))
+
+  pub pushed : (b : Adjacency) → b.ends.items ≡ a.ends.items ++ v ∷ [] → b.starts.items ≡ front ++ length b.ends.items ∷ [] → Pushed v a b
+  pushed b e s =
+      let new : (u : ℕ) → (listing b).slots u ≡ slots_in front (a.ends.items ++ v ∷ []) u =
+      λ u. ap (λ xs. slots_in xs b.ends.items u) s ∙ grown_in front b.ends.items u ∙ ap (λ xs. slots_in front xs u) e in
+      let old : (u : ℕ) → (listing a).slots u ≡ slots_in front a.ends.items u = λ u. ap (λ xs. slots_in xs a.ends.items u) moved_is ∙ grown_in front a.ends.items u in
+      let size : (listing a).size ≡ length front = omega (arith, ap length is, length-append front (x ∷ [])) in
+      record {
+        size = omega (arith, ap length s, ap length is, length-append front (x ∷ []), length-append front (length b.ends.items ∷ []));
+        last = λ u i. new u ∙ pushed_last front a.ends.items v moved_some moved_front u (sym size ∙ i) ∙ ap (λ xs. xs ++ Some v ∷ []) (sym (old u));
+        others = λ u n. new u ∙ pushed_others front a.ends.items v moved_some moved_front u (λ i. n (size ∙ i)) ∙ sym (old u);
+        one = filled_is b ∙ ap length e ∙ length-append a.ends.items (v ∷ []) ∙ ap (λ k. k + 1) (sym (filled_is a));
+      }
 
 -- ---- what a book keeps
-
-slots_few : (n : ℕ) (starts ends : List ℕ) → Ascends n starts → (u : ℕ) → length ((listed n starts ends).slots u) ≤ 4096
-slots_few n starts ends a u =
-    ⊎_elim
-    (λ (h : u < n).
-    let part = between (get_or starts u 0) (get_or starts (suc u) 0) ends in
-    let e = ap length (listed_at n u starts ends h) in
-    let m = length-map part Some in
-    let t = length-take (get_or starts (suc u) 0 - get_or starts u 0) (drop (get_or starts u 0) ends) in
-    let b = (a u h).2 in
-    omega arith)
-    (λ (h : n ≤ u). let e = ap length (listed_past n u starts ends h) in omega arith)
-    (cases_lt u n)
 
 -- adjacency lists whose slots hold closures
 pub lists_sound : (a : Adjacency) → ((u v : ℕ) → T (holds ((listing a).slots u) v) → v < (listing a).size) → Sound 1024 (listing a)
 lists_sound a below =
     record {
-      some = a.few.0;
-      few = a.few.1;
-      outside = λ u h. listed_past a.n u a.starts a.ends h;
+      some = omega (arith, a.few.0);
+      few = omega (arith, a.few.1);
+      outside = listed_past a;
       below = below;
-      short = λ u. let f = slots_few a.n a.starts a.ends a.ascends u in omega arith;
+      short = λ u.
+          let end = length a.ends.items in
+          let at = cut a.starts.items end in
+          let m = length-map (between (at u) (at (suc u)) a.ends.items) Some in
+          let l = length-between a.ends.items (at u) (at (suc u)) (a.ascends.1 (suc u)).1 in
+          omega (arith, a.room, (a.ascends.1 (suc u)).1);
     }

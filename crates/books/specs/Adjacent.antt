@@ -1,20 +1,20 @@
 -- What adjacency lists mean, and what is changed by one closure or one slot more.
-use Rattle.std.specs.Prelude.{◌≡◌, ℕ, zero, suc, ◌+◌, ◌<◌, List, [], ◌∷◌, ◌++◌, length, Some, Option, ◌≢◌}
+use Rattle.std.specs.Prelude.{◌≡◌, ℕ, zero, suc, ◌+◌, ◌-◌, ◌<◌, List, [], ◌∷◌, ◌++◌, length, Some, Option, ◌≢◌}
 use Rattle.books.specs.declared.stored.Adjacency.{Adjacency}
 use Rattle.books.specs.Listing.{Listing}
-use Rattle.books.specs.Tables.{listed}
+use Rattle.books.specs.Tables.{cut, part}
 
 abbrev pub listing : Adjacency → Listing
-listing a = listed a.n a.starts a.ends
+listing a = record { size = length a.starts.items - 1; slots = part (cut a.starts.items (length a.ends.items)) a.ends.items }
 
 -- how many slots the first closures have
-abbrev pub slots_below : Listing → ℕ → ℕ
-slots_below l zero = 0
-slots_below l (suc u) = slots_below l u + length (l.slots u)
+abbrev pub slots_below : (ℕ → List (Option ℕ)) → ℕ → ℕ
+slots_below slots zero = 0
+slots_below slots (suc u) = slots_below slots u + length (slots u)
 
 -- how many slots there are in all
 unfoldable pub filled : Adjacency → ℕ
-filled a = slots_below (listing a) a.n
+filled a = slots_below (listing a).slots (listing a).size
 
 -- one closure without slots
 pub record Bare (a : Adjacency) : Type 0 where
@@ -34,10 +34,6 @@ pub record Pushed (v : ℕ) (a b : Adjacency) : Type 0 where
   pub last : (u : ℕ) → (listing a).size ≡ suc u → (listing b).slots u ≡ (listing a).slots u ++ (Some v ∷ [])
   pub others : (u : ℕ) → ((listing a).size ≢ suc u) → (listing b).slots u ≡ (listing a).slots u
   pub one : filled b ≡ filled a + 1
-
--- rows of slots as a listing, whose size does not matter
-abbrev pub rowed : (ℕ → List (Option ℕ)) → Listing
-rowed row = record { size = 0; slots = row }
 
 -- a has n closures, and each has the slots of its row
 pub record Laid (row : ℕ → List (Option ℕ)) (n : ℕ) (a : Adjacency) : Type 0 where

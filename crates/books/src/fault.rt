@@ -2,38 +2,38 @@
 ghost use Rattle.std.specs.Prelude.{◌≡◌};
 ghost use Rattle.books.specs.Faults.{numbered, placed};
 
-use std::fmt;
+use thiserror::Error;
 
-// A refusal, with the byte that it is about where it has one.
-#[derive(Clone, Copy, PartialEq, Eq, Debug)]
+// A refusal, with the byte that it is about where it has one. Its text is the condition in words.
+#[derive(Clone, Copy, PartialEq, Eq, Debug, Error)]
 pub enum Fault {
-    // a log of fewer than 4 bytes
+    #[error("the log has fewer than 4 bytes")]
     ShortLog,
-    // a number of closures that is not 1 to 1,024
+    #[error("the number of closures is not 1 to 1024")]
     ClosureCount,
-    // more than 4,096 records
+    #[error("the number of records is above 4096")]
     RecordCount,
-    // a length that is not that of the closures and records
+    #[error("the length is not 4 bytes, 4 for each closure and 8 for each record")]
     LogLength,
-    // a head above the number of records, an end that is no closure, or a next record that is not an earlier one
+    #[error("a head is above the number of records, an end is no closure, or a next record is not an earlier one")]
     WordRange { place: usize },
-    // a link to a record of another closure
+    #[error("a link leads to a record of another closure")]
     ForeignLink { place: usize },
-    // a record that is in no leaving or in no arriving chain
+    #[error("a record is in no leaving or in no arriving chain")]
     LostRecord { place: usize },
-    // a buffer that is too short, or a record past the 4,096th
+    #[error("the buffer is too short, or there are more than 4096 records")]
     NoRoom,
-    // a number that is no closure
+    #[error("a number is no closure of the plan")]
     NoClosure,
-    // a mark after a visit or a pass
+    #[error("a mark comes after a visit or a pass")]
     LateMark,
-    // no site is marked
+    #[error("no site is marked")]
     NoSite,
-    // a closure that was visited in this direction before
+    #[error("the closure was visited before in this direction")]
     VisitedBefore,
-    // a survey whose bounds have not met
+    #[error("the survey is not ready")]
     NotReady,
-    // rows that break a rule
+    #[error("the rows break a rule")]
     BrokenRows,
 }
 
@@ -70,33 +70,5 @@ impl Fault {
             Fault::LostRecord { place } => place,
             _ => 0,
         }
-    }
-}
-
-// The condition of a refusal, in words.
-fn condition(fault: Fault) -> &'static str {
-    match fault {
-        Fault::ShortLog => "the log has fewer than 4 bytes",
-        Fault::ClosureCount => "the number of closures is not 1 to 1024",
-        Fault::RecordCount => "the number of records is above 4096",
-        Fault::LogLength => "the length is not 4 bytes, 4 for each closure and 8 for each record",
-        Fault::WordRange { place: _ } => {
-            "a head is above the number of records, an end is no closure, or a next record is not an earlier one"
-        }
-        Fault::ForeignLink { place: _ } => "a link leads to a record of another closure",
-        Fault::LostRecord { place: _ } => "a record is in no leaving or in no arriving chain",
-        Fault::NoRoom => "the buffer is too short, or there are more than 4096 records",
-        Fault::NoClosure => "a number is no closure of the plan",
-        Fault::LateMark => "a mark comes after a visit or a pass",
-        Fault::NoSite => "no site is marked",
-        Fault::VisitedBefore => "the closure was visited before in this direction",
-        Fault::NotReady => "the survey is not ready",
-        Fault::BrokenRows => "the rows break a rule",
-    }
-}
-
-impl fmt::Display for Fault {
-    fn fmt<W: fmt::Write>(&self, f: &mut fmt::Formatter<W>) -> fmt::Result {
-        f.write_str(condition(*self))
     }
 }

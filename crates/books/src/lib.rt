@@ -4,5 +4,6 @@
 pub mod adjacency;
 pub mod book;
 pub mod fault;
+pub mod source;
 mod stored;
 pub mod theorems;

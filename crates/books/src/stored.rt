@@ -1,23 +1,17 @@
-// The arrays behind a book that holds its plan.
-ghost use Rattle.std.specs.Prelude.{◌≡◌, ◌≤◌};
-ghost use Rattle.books.specs.Tables.{Ascends};
+// The tables behind a book that holds its plan.
+ghost use Rattle.std.specs.Prelude.{◌≡◌, ◌-◌, ◌≤◌, length};
+ghost use Rattle.books.specs.Tables.{Ascends, cut};
 
-// The slots of all closures in one direction, closure by closure (compressed adjacency lists): those of the closure u are
-// `ends` from `starts[u]` to `starts[u + 1]`.
+use arrayvec::ArrayVec;
+
+// The slots of all closures in one direction, closure by closure (compressed adjacency lists): those of a closure stand in
+// `ends` from its start up to the next start. The last start is the end of all slots.
 #[derive(Drop)]
 pub struct Adjacency {
-    pub(crate) n: u16,
-    pub(crate) starts: [u16; 1025],
-    pub(crate) ends: [u16; 4096],
-    ghost few: { (1 ≤ n) × (n ≤ 1024) },
-    ghost ascends: { Ascends n starts },
-}
-
-impl Adjacency {
-    // The number of closures.
-    pub fn n(&self) -> u16
-        ensures { result ≡ self.now.n }
-    {
-        self.n
-    }
+    pub(crate) starts: ArrayVec<u16, 1025>,
+    pub(crate) ends: ArrayVec<u16, 4096>,
+    ghost few: { (2 ≤ length starts.items) × (length starts.items ≤ 1025) },
+    ghost room: { length ends.items ≤ 4096 },
+    ghost ascends: { Ascends starts.items (length ends.items) },
+    ghost last: { cut starts.items (length ends.items) (length starts.items - 1) ≡ length ends.items },
 }

@@ -1,0 +1,25 @@
+// What adjacency lists are laid out from.
+ghost use Rattle.std.specs.Prelude.{◌≡◌, suc, ◌<◌, ◌≤◌};
+ghost use Rattle.books.specs.Adjacent.{Lacking, Laid, slots_below};
+ghost use Rattle.books.specs.Listing.{Listing};
+
+use super::stored::Adjacency;
+
+// The slots of a plan in one direction, that are read closure by closure.
+pub trait Source {
+    ghost listing: { Self → Listing };
+
+    // The number of closures.
+    fn closures(&self) -> u16
+        ensures { result ≡ (listing self.now).size };
+
+    // Gives the last closure of the lists the slots of u.
+    fn fill(&self, u: u16, lists: &mut Adjacency)
+        ensures { u < (listing self.now).size → Lacking (listing self.now).slots u ((listing self.now).slots u) lists.old → Laid (listing self.now).slots (suc u) lists.new };
+
+    ghost some: { (s : Self) → 1 ≤ (listing s).size };
+
+    ghost few: { (s : Self) → (listing s).size ≤ 1024 };
+
+    ghost room: { (s : Self) → slots_below (listing s).slots (listing s).size ≤ 4096 };
+}
