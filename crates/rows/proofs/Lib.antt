@@ -1,1 +1,2 @@
-mod Scanning
+pub mod Holding
+pub mod Opened

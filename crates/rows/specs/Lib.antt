@@ -1,4 +1,5 @@
 pub mod Rules
-pub mod Laying
+pub mod Slots
 pub mod Opening
+pub mod Starts
 pub mod Holding

@@ -1,5 +1,5 @@
 -- What opening answers, and what rows then mean.
-use Rattle.std.specs.Prelude.{◌≡◌, ℕ, T, ◌↔◌, List, None, Result, MatchResult}
+use Rattle.std.specs.Prelude.{◌≡◌, ℕ, IsTrue, ◌↔◌, List, None, Result, MatchResult}
 use Rattle.books.specs.declared.fault.Fault.{Fault}
 use Rattle.books.specs.declared.fault.Fault.TheVariants.{BrokenRows}
 use Rattle.books.specs.Adjacent.{Laid, listing}
@@ -8,13 +8,6 @@ use Rattle.books.specs.Listing.{plan}
 use Rattle.books.specs.Tables.{slots_at}
 use Rattle.rows.specs.declared.stored.Rows.{Rows}
 use Rattle.rows.specs.Rules.{Broken, Kept, Lists}
-
--- the number of closures with which the rules are kept, or a refusal where they are broken
-abbrev pub Judged : List ℕ → List ℕ → List ℕ → List ℕ → Result ℕ Fault → Type 0
-Judged out_starts out_ends in_starts in_ends r =
-    MatchResult r
-    (λ n. Kept n out_starts out_ends in_starts in_ends)
-    (λ e. (e ≡ BrokenRows) × Broken out_starts out_ends in_starts in_ends)
 
 module _ {X : Type 0} (out_starts out_ends in_starts in_ends : List ℕ) (r : Result X Fault) where
   -- rows that keep the rules are opened
@@ -32,4 +25,4 @@ module _ {X : Type 0} (out_starts out_ends in_starts in_ends : List ℕ) (r : Re
 -- where rows were opened, a span leads from u to v exactly if a slot of u holds v in the outgoing listing
 abbrev pub Spans : {X : Type 0} → List ℕ → List ℕ → Result X Fault → Rows → Type 0
 Spans starts ends r rows =
-    told r ≡ None → (u v : ℕ) → T ((plan (listing rows.out)).leads u v) ↔ Lists starts ends u v
+    told r ≡ None → (u v : ℕ) → IsTrue ((plan (listing rows.out)).leads u v) ↔ Lists starts ends u v

@@ -1,38 +1,29 @@
-// Rows that keep the rules, laid out by closure.
-ghost use Rattle.std.specs.Prelude.{suc, ◌≤◌};
-ghost use Rattle.books.specs.Adjacent.{Lacking, Laid};
-ghost use Rattle.books.specs.Tables.{slots_at};
-ghost use Rattle.rows.specs.Laying.{Within};
-ghost use Rattle.rows.specs.Rules.{Ordered};
+// Listings that keep the rules, as sources of adjacency lists.
+ghost use Rattle.rows.specs.Slots.{row_of};
+ghost use Rattle.rows.specs.Starts.{slots_few};
+ghost use Rattle.std.proofs.Common.{arith};
 
-use super::listed::Listed;
+use super::orderly::Orderly;
 use books::adjacency::Adjacency;
+use books::source::Source;
 
-// Gives the last closure, u, its slots.
-fn fill(lists: &mut Adjacency, listed: Listed<'_>, u: u16)
-    requires within { Within listed.starts.now listed.ends.now u }
-    requires lacking { Lacking (slots_at listed.starts.now listed.ends.now) u (slots_at listed.starts.now listed.ends.now u) lists.old }
-    ensures { Laid (slots_at listed.entry.starts.now listed.entry.ends.now) (suc u) lists.new }
-{
-    for k in listed.starts[u as usize]..listed.starts[u as usize + 1] {
-        // there is room, since at most 4,096 ends are in use
-        let _ = lists.push(listed.ends[k as usize]);
-    }
-}
+impl<'a> Source for Orderly<'a> {
+    ghost listing = { λ o. record { size = o.n; slots = row_of o.listed } };
 
-// Lays out the slots of all closures of one listing.
-pub(crate) fn lay_out(n: u16, listed: Listed<'_>) -> Adjacency
-    requires some { 1 ≤ n }
-    requires most { n ≤ 1024 }
-    requires ordered { Ordered n listed.starts.now listed.ends.now }
-    ensures { Laid (slots_at listed.entry.starts.now listed.entry.ends.now) n result }
-{
-    let mut lists = Adjacency::new();
-    fill(&mut lists, listed, 0);
-    for u in 1..n {
-        // there is room, since n is at most 1,024
-        let _ = lists.grow();
-        fill(&mut lists, listed, u);
+    ghost some = { λ o. o.some };
+
+    ghost few = { λ o. o.most };
+
+    ghost room = { λ o. slots_few o.n o.listed o.ordered o.n (omega arith) };
+
+    fn closures(&self) -> u16 {
+        self.n
     }
-    lists
+
+    fn fill(&self, u: u16, lists: &mut Adjacency) {
+        for v in self.slots(u) {
+            // there is room, since at most 4,096 ends are in use
+            let _ = lists.push(*v);
+        }
+    }
 }

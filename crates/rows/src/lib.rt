@@ -3,6 +3,7 @@
 
 mod laying;
 mod listed;
+mod orderly;
 pub mod rows;
 mod rules;
 pub mod slots;

@@ -3,7 +3,6 @@ ghost use Rattle.std.specs.Prelude.{◌≡◌, ℕ, []};
 ghost use Rattle.books.specs.Adjacent.{listing};
 ghost use Rattle.rows.specs.Opening.{Opens, Spans, Verdict};
 
-use super::laying::lay_out;
 pub use super::listed::Listed;
 use super::rules::judge;
 pub use super::stored::Rows;
@@ -29,10 +28,10 @@ impl Rows {
         ensures verdict { Verdict out.entry.starts.now out.entry.ends.now into.entry.starts.now into.entry.ends.now result self.old self.new }
         ensures spans { Spans out.entry.starts.now out.entry.ends.now result self.new }
     {
-        let n = judge(out, into)?;
+        let matched = judge(out, into).ok_or(Fault::BrokenRows)?;
         *self = Rows {
-            out: lay_out(n, out),
-            into: lay_out(n, into),
+            out: Adjacency::of(&matched.out),
+            into: Adjacency::of(&matched.into),
         };
         Ok(())
     }

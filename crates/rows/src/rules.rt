@@ -1,59 +1,57 @@
 // The rules that rows keep.
-ghost use Rattle.std.specs.Prelude.{ℕ, ◌<◌, ◌≤◌, length, Decides, slice_index};
-ghost use Rattle.rows.specs.Opening.{Judged};
-ghost use Rattle.rows.specs.Rules.{Ordered, Rising, Shown};
+ghost use Rattle.std.specs.Prelude.{◌≡◌, ℕ, ◌<◌, ◌≤◌, ◌↔◌, IsTrue, MatchOption, length, slice_index};
+ghost use Rattle.rows.specs.Rules.{Broken, Ordered, Rising};
+ghost use Rattle.rows.specs.Slots.{Mirrors};
 
 use super::listed::Listed;
-use books::fault::Fault;
+use super::orderly::{Matched, Orderly};
 
 // Whether there are n + 1 starts that begin at 0 and never fall, the last at most 4,096 and at most the number of ends.
 fn starts_rise(n: u16, starts: &[u16], end_count: usize) -> bool
-    ensures { Decides result (Rising n end_count starts.now) }
+    ensures { IsTrue result ↔ Rising n end_count starts.now }
 {
-    if starts.len() != n as usize + 1 || starts[0] != 0 {
+    if starts.len() != usize::from(n) + 1 || starts[0] != 0 {
         return false;
     }
-    for u in 0..n as usize {
-        if starts[u] > starts[u + 1] {
-            return false;
-        }
+    if !starts.is_sorted() {
+        return false;
     }
-    let last = starts[n as usize];
-    last <= 4096 && last as usize <= end_count
+    let last = starts[usize::from(n)];
+    last <= 4096 && usize::from(last) <= end_count
 }
 
-// Whether the first ends, as many as are in use, are closures.
-fn ends_below(n: u16, used: u16, ends: &[u16]) -> bool
-    requires { used ≤ length ends.now }
-    ensures { Decides result ((k : ℕ) → k < used → slice_index ends.now k < n) }
+// Whether ends are closures.
+fn ends_below(n: u16, ends: &[u16]) -> bool
+    ensures { IsTrue result ↔ ((k : ℕ) → k < length ends.now → slice_index ends.now k < n) }
 {
-    for k in 0..used as usize {
-        if ends[k] >= n {
-            return false;
-        }
-    }
-    true
+    ends.iter().all(|v| *v < n)
 }
 
-// Whether one listing keeps the rules by itself.
-fn ordered(n: u16, listed: Listed<'_>) -> bool
-    ensures { Decides result (Ordered n listed.entry.starts.now listed.entry.ends.now) }
+// The listing, where it keeps the rules by itself.
+fn ordered(n: u16, listed: Listed<'_>) -> Option<Orderly<'_>>
+    requires some { 1 ≤ n }
+    requires most { n ≤ 1024 }
+    ensures { MatchOption result (Ordered n listed.entry.starts.now listed.entry.ends.now → ⊥) (λ o. (o.n ≡ n) × (o.listed ≡ listed.entry)) }
 {
-    starts_rise(n, listed.starts, listed.ends.len())
-        && ends_below(n, listed.starts[n as usize], listed.ends)
+    let Listed { starts, ends } = listed;
+    if !starts_rise(n, starts, ends.len()) {
+        return None;
+    }
+    let used = usize::from(starts[usize::from(n)]);
+    if !ends_below(n, &ends[..used]) {
+        return None;
+    }
+    Some(Orderly { n, listed })
 }
 
 // Whether each span of one listing stands in the other.
-fn shown(n: u16, here: Listed<'_>, there: Listed<'_>) -> bool
-    requires here { Ordered n here.starts.now here.ends.now }
-    requires there { Ordered n there.starts.now there.ends.now }
-    ensures { Decides result (Shown here.entry.starts.now here.entry.ends.now there.entry.starts.now there.entry.ends.now) }
+fn shown(here: Orderly<'_>, there: Orderly<'_>) -> bool
+    ensures { IsTrue result ↔ Mirrors here.entry.listed there.entry.listed }
 {
-    for u in 0..n {
-        'slots: for k in here.starts[u as usize]..here.starts[u as usize + 1] {
-            let v = here.ends[k as usize];
-            for j in there.starts[v as usize]..there.starts[v as usize + 1] {
-                if there.ends[j as usize] == u {
+    for u in 0..here.n {
+        'slots: for v in here.slots(u) {
+            for w in there.slots(*v) {
+                if *w == u {
                     continue 'slots;
                 }
             }
@@ -63,18 +61,19 @@ fn shown(n: u16, here: Listed<'_>, there: Listed<'_>) -> bool
     true
 }
 
-// The number of closures of rows that keep the rules.
-pub(crate) fn judge(out: Listed<'_>, into: Listed<'_>) -> Result<u16, Fault>
-    ensures { Judged out.entry.starts.now out.entry.ends.now into.entry.starts.now into.entry.ends.now result }
+// Both listings, where they keep the rules.
+pub(crate) fn judge<'a>(out: Listed<'a>, into: Listed<'a>) -> Option<Matched<'a>>
+    ensures { MatchOption result (Broken out.entry.starts.now out.entry.ends.now into.entry.starts.now into.entry.ends.now) (λ m. (m.out.listed ≡ out.entry) × (m.into.listed ≡ into.entry)) }
 {
-    let starts = out.starts.len();
-    if starts < 2 || starts > 1025 {
-        return Err(Fault::BrokenRows);
+    let n = u16::try_from(out.starts.len().checked_sub(1)?).ok()?;
+    if n == 0 || n > 1024 {
+        return None;
     }
-    let n = (starts - 1) as u16;
-    if ordered(n, out) && ordered(n, into) && shown(n, out, into) && shown(n, into, out) {
-        Ok(n)
+    let out = ordered(n, out)?;
+    let into = ordered(n, into)?;
+    if shown(out, into) && shown(into, out) {
+        Some(Matched { out, into })
     } else {
-        Err(Fault::BrokenRows)
+        None
     }
 }

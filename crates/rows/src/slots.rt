@@ -1,6 +1,6 @@
 // Opened rows as a book.
 ghost use Rattle.std.specs.Prelude.{◌≡◌, T, length};
-ghost use Rattle.std.proofs.Common.{sym, subst, rules, arith};
+ghost use Rattle.std.proofs.Common.{sym, subst, rules};
 ghost use Rattle.books.specs.Adjacent.{listing};
 ghost use Rattle.books.specs.Listing.{slot, Sound};
 ghost use Rattle.rows.specs.Holding.{turned_sound};

@@ -1,4 +1,4 @@
-// The arrays behind opened rows.
+// The tables behind opened rows.
 ghost use Rattle.std.specs.Prelude.{◌≡◌, ℕ};
 ghost use Rattle.books.specs.Adjacent.{listing};
 ghost use Rattle.books.specs.Listing.{holds};

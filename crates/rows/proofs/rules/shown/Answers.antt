@@ -1,44 +1,36 @@
-use Rattle.std.proofs.Common.{get_or, refl, arith}
-use Rattle.rows.proofs.Scanning.{all_shown, along_more, end_inside, one_missing, through_more}
+use Rattle.std.proofs.Common.{map, Some, IsTrue, get_or, sym, refl, subst, below_more, arith}
+use Rattle.std.proofs.lemmas.Bool.{false≢true}
+use Rattle.books.specs.Listing.{holds}
+use Rattle.rows.specs.Slots.{row_of}
+use Rattle.rows.proofs.Holding.{held_closure, holds_at, held_at}
 use Rattle.rows.proofs.rules.shown.Goals as goal
-
-pub bounds-here-k : goal.bounds-here-k
-bounds-here-k c =
-    (end_inside c.args.n c.args.here.starts.now c.args.here.ends.now c.loop-u.u c.slots.k c.requires.here c.loop-u-test.true c.slots-test.true).0
-
-pub bounds-there-v : goal.bounds-there-v
-bounds-there-v c =
-    let b = (end_inside c.args.n c.args.here.starts.now c.args.here.ends.now c.loop-u.u c.slots.k c.requires.here c.loop-u-test.true c.slots-test.true).1 in
-    omega (arith, c.requires.there.rising.long)
-
-pub bounds-there-v-in-slots : goal.bounds-there-v-in-slots
-bounds-there-v-in-slots c =
-    let b = (end_inside c.args.n c.args.here.starts.now c.args.here.ends.now c.loop-u.u c.slots.k c.requires.here c.loop-u-test.true c.slots-test.true).1 in
-    omega (arith, c.requires.there.rising.long)
-
-pub bounds-there-j : goal.bounds-there-j
-bounds-there-j c =
-    let b = (end_inside c.args.n c.args.here.starts.now c.args.here.ends.now c.loop-u.u c.slots.k c.requires.here c.loop-u-test.true c.slots-test.true).1 in
-    (end_inside c.args.n c.args.there.starts.now c.args.there.ends.now (get_or c.args.here.ends.now c.slots.k 0) c.loop-j.j c.requires.there b c.loop-j-test.true).0
 
 pub slots-preserved : goal.slots-preserved
 slots-preserved c =
-    along_more c.args.here.starts.now c.args.here.ends.now c.args.there.starts.now c.args.there.ends.now
-    c.loop-u.u c.slots.k (get_or c.args.here.ends.now c.slots.k 0) c.loop-j.j
-    refl c.slots.invariant c.loop-j.auto.j c.loop-j-test.true c.if-there-j.true
+    below_more _ c.slots.v-index c.slots.invariant
+    (subst (λ xs. IsTrue (holds (map Some xs) c.loop-u.u)) c.slots-w-items.ensures (holds_at c.slots-w-items.result.now c.loop-w.w-index c.loop-u.u c.loop-w-test.true c.if-w-u.true))
 
 pub returns-in-slots : goal.returns-in-slots
 returns-in-slots c =
-    one_missing c.args.here.starts.now c.args.here.ends.now c.args.there.starts.now c.args.there.ends.now
-    c.loop-u.u c.slots.k (get_or c.args.here.ends.now c.slots.k 0) c.loop-j.j
-    refl c.slots.auto.k c.slots-test.true c.loop-j.invariant c.loop-j-test.false
+    let v = get_or c.slots-v-items.result.now c.slots.v-index 0 in
+    let is = holds_at c.slots-v-items.result.now c.slots.v-index v c.slots-test.true refl in (
+      λ t. absurd (false≢true t),
+      λ m.
+          let back = m c.loop-u.u v (subst (λ xs. IsTrue (holds (map Some xs) v)) c.slots-v-items.ensures is) in
+          let p = held_at c.slots-w-items.result.now c.loop-u.u (subst (λ xs. IsTrue (holds (map Some xs) c.loop-u.u)) (sym c.slots-w-items.ensures) back) in
+          absurd (c.loop-w.invariant p.0 (omega (arith, p.1)) p.2),
+    )
 
 pub loop-u-preserved : goal.loop-u-preserved
 loop-u-preserved c =
-    through_more c.args.here.starts.now c.args.here.ends.now c.args.there.starts.now c.args.there.ends.now c.loop-u.u c.slots.k
-    c.loop-u.invariant c.slots.invariant c.slots-test.false
+    below_more _ c.loop-u.u c.loop-u.invariant
+    (λ v t.
+    let p = held_at c.slots-v-items.result.now v (subst (λ xs. IsTrue (holds (map Some xs) v)) (sym c.slots-v-items.ensures) t) in
+    subst (λ x. IsTrue (holds (row_of c.args.there.listed x) c.loop-u.u)) p.2
+    (c.slots.invariant p.0 (omega (arith, p.1))))
 
 pub returns : goal.returns
-returns c =
-    all_shown c.args.here.starts.now c.args.here.ends.now c.args.there.starts.now c.args.there.ends.now
-    c.args.n c.loop-u.u c.requires.here c.loop-u-test.false c.loop-u.invariant
+returns c = (
+  λ _ u v t. c.loop-u.invariant u (omega (arith, held_closure c.args.here.n c.args.here.listed c.args.here.ordered u v t)) v t,
+  λ _. refl,
+)
