@@ -1,6 +1,6 @@
 -- A log written again: it is refused only where there is no room.
-use Rattle.std.proofs.Common.{◌≡◌, ℕ, suc, ◌+◌, ◌*◌, ◌<◌, ◌≤◌, true, List, [], ◌∷◌, ◌++◌, reverse, length, take, drop, Some, None, Ok, Err, Result, sym, refl, ap, ◌∙◌, subst, ⊎_elim, arith}
-use Rattle.std.proofs.lemmas.List.{length-append, length-reverse, reverse-append, reverse-reverse, take_at}
+use Rattle.std.proofs.Common.{◌≡◌, ℕ, suc, ◌+◌, ◌*◌, ◌<◌, ◌≤◌, true, List, [], ◌∷◌, ◌++◌, reverse, length, drop, Some, None, Ok, Err, Result, sym, refl, ap, ◌∙◌, subst, ⊎_elim, arith}
+use Rattle.std.proofs.lemmas.List.{length-reverse, reverse-append, reverse-reverse}
 use Rattle.std.proofs.lemmas.Bool.{cases_lt}
 use Rattle.std.proofs.lemmas.Bool.Decides.{nat_tests}
 use Rattle.books.specs.declared.fault.Fault.{Fault}
@@ -14,7 +14,7 @@ use Rattle.logs.specs.Logs.{LogOf, closures, history}
 use Rattle.logs.specs.Opening.{Accepted}
 use Rattle.logs.specs.Writing.{Rewritten, Written, adding, left_off, writing}
 use Rattle.logs.specs.Placing.{length_encode}
-use Rattle.logs.specs.Drafting.{inside_more, inside_parts, not_none}
+use Rattle.logs.specs.Drafting.{inside_more, inside_parts}
 use Rattle.logs.proofs.Written.{adding_on, adding_refused, fitting_answer, unfit_answer}
 
 -- ---- spans that are inside, and few
@@ -89,10 +89,10 @@ answered_ok : (n : ℕ) (h : List Span) (before after : List ℕ) (r : Result �
 answered_ok n h before after (Ok len) t w =
     let x : Wrote n h before len after = subst (λ y. Wrote n y before len after) (reverse-reverse h) w.bytes in
     (ap Ok x.gives, x.bytes ∙ ap (λ y. encode n h ++ drop y before) x.gives)
-answered_ok n h before after (Err e) t w = absurd (not_none e t)
+answered_ok n h before after (Err e) t w = absurd cc
 
 answered_err : (n : ℕ) (h : List Span) (before after : List ℕ) (r : Result ℕ Fault) → told r ≡ Some NoRoom → Written n (reverse h) before r after → (r ≡ Err NoRoom) × (after ≡ left_off n (reverse h) before)
-answered_err n h before after (Ok len) t w = absurd (not_none NoRoom (sym t))
+answered_err n h before after (Ok len) t w = absurd cc
 answered_err n h before after (Err e) t w = (cc, w.bytes)
 
 pub rewritten : (bytes : List ℕ) (log : Log) (before after : List ℕ) (r : Result ℕ Fault) → LogOf bytes log → Written (closures log) (reverse (history log)) before r after → Rewritten bytes log before r after
@@ -113,18 +113,3 @@ rewritten bytes log before after r a w =
 pub written_same : (n k : ℕ) (xs ys : List Span) (before after : List ℕ) (r : Result ℕ Fault) → k ≡ n → ys ≡ xs → Written k ys before r after → Written n xs before r after
 written_same n k xs ys before after r q e w =
     subst (λ x. Written n x before r after) e (subst (λ x. Written x ys before r after) q w)
-
--- ---- a log that was written
-
-pub wrote_within : (n len : ℕ) (h : List Span) (before after : List ℕ) → Wrote n h before len after → len ≤ length after
-wrote_within n len h before after w =
-    let l = w.extent in
-    let a = ap length w.bytes ∙ length-append (encode n h) (drop len before) in
-    omega arith
-
--- the front of the buffer is the log
-pub front : (n len k : ℕ) (h : List Span) (before after : List ℕ) → Wrote n h before len after → k ≡ len → Accepted (take k after) n h
-front n len k h before after w e =
-    let l = w.extent in
-    let t : take k after ≡ encode n h = ap (take k) w.bytes ∙ take_at (encode n h) (drop len before) k (omega arith) in
-    subst (λ x. Accepted x n h) (sym t) w.log

@@ -3,18 +3,19 @@ use Rattle.std.proofs.Common.{◌≡◌, ℕ, zero, suc, ◌+◌, ◌-◌, ◌*�
 use Rattle.std.proofs.lemmas.List.{append-nil, get_or_append_left, get_or-append_right}
 use Rattle.std.proofs.lemmas.Bool.{cases_eq}
 use Rattle.std.proofs.lemmas.Bool.Decides.{nat_tests}
+use Rattle.logs.specs.declared.opening.Tested.{Tested}
 use Rattle.logs.specs.declared.side.Side.{Side}
 use Rattle.logs.specs.declared.side.Side.TheVariants.{Leaving, Arriving}
 use Rattle.logs.specs.declared.span.Span.{Span}
 use Rattle.logs.specs.Sides.{column, near}
 use Rattle.logs.specs.Words.{spread, word}
 use Rattle.logs.specs.History.{encode, entries, heads, inside, latest, record_of, size}
-use Rattle.logs.specs.Opening.{Accepted, Chain, Chains, Ranged, Whole, end, end_at, head_at, headed, link, more, next_at, none, spans_at}
+use Rattle.logs.specs.Opening.{Accepted, Chain, Chains, Judged, Ranged, Whole, end, end_at, head_at, headed, link, more, next_at, none, spans_at}
 use Rattle.logs.specs.Spread.{word_spread}
 use Rattle.logs.specs.Placing.{words, length_words, length_heads, length_entries, length_encode, entries_more, body_word, head_word, column_few}
 use Rattle.logs.specs.Drafting.{inside_parts, near_inside}
 use Rattle.logs.proofs.Ranges.{ranged_from}
-use Rattle.logs.proofs.Canon.{Linked, count, count_other, count_own, newest, newest_few, newest_other, newest_own, tally, tally_all}
+use Rattle.logs.proofs.Canon.{Linked, count, count_other, count_own, length_spans, newest, newest_few, newest_other, newest_own, tally, tally_all}
 use Rattle.logs.proofs.Afresh.{record_end, record_next}
 
 -- the words of the records stand behind the heads
@@ -160,7 +161,7 @@ first_word bytes n h a = ap (λ x. word x 0) a.written ∙ word_encode n h 0 (om
 second_word : (bytes : List ℕ) (n : ℕ) (h : List Span) → Accepted bytes n h → word bytes 2 ≡ length h
 second_word bytes n h a = ap (λ x. word x 2) a.written ∙ word_encode n h 1 (omega arith)
 
-headed_ok : (bytes : List ℕ) (n m : ℕ) → word bytes 0 ≡ n → word bytes 2 ≡ m → 1 ≤ n → n ≤ 1024 → m ≤ 4096 → length bytes ≡ size n m → headed bytes ≡ None
+pub headed_ok : (bytes : List ℕ) (n m : ℕ) → word bytes 0 ≡ n → word bytes 2 ≡ m → 1 ≤ n → n ≤ 1024 → m ≤ 4096 → length bytes ≡ size n m → headed bytes ≡ None
 headed_ok bytes n m a b some few short l = grind (arith, nat_tests)
 
 pub accepted_headed : (bytes : List ℕ) (n : ℕ) (h : List Span) → Accepted bytes n h → headed bytes ≡ None
@@ -181,3 +182,25 @@ accepted_spans bytes n h a =
     ∙ ap (λ x. spans_at x n (length h)) (sym a.written)
     ∙ ap (λ x. spans_at bytes x (length h)) (sym (first_word bytes n h a))
     ∙ ap (λ x. spans_at bytes (word bytes 0) x) (sym (second_word bytes n h a))
+
+-- tested bytes are the log of their spans
+pub accepted : (t : Tested) → Accepted t.log.bytes.now t.log.header.n (spans_at t.log.bytes.now t.log.header.n t.log.header.m)
+accepted t =
+    let l = length_spans t.log.bytes.now t.log.header.n t.log.header.m in
+    record { written = t.written; some = t.log.some; few = t.log.few; short = omega (arith, t.log.short); inside = t.within }
+
+-- they pass every test
+pub judged : (t : Tested) → Judged t.log.bytes.now t.log.header.n t.log.header.m
+judged t =
+    let bytes = t.log.bytes.now in
+    let n = t.log.header.n in
+    let h = spans_at bytes n t.log.header.m in
+    record {
+      len = t.log.len;
+      some = t.log.some;
+      few = t.log.few;
+      short = t.log.short;
+      whole =
+          subst (λ b. Whole b n t.log.header.m) (sym t.written)
+          (subst (Whole (encode n h) n) (length_spans bytes n t.log.header.m) (whole n h t.within));
+    }

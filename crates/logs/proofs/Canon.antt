@@ -1,13 +1,13 @@
 -- Chains that hold every record are those that a draft would write.
-use Rattle.std.proofs.Common.{◌≡◌, ℕ, zero, suc, ◌<◌, ◌≤◌, List, [], ◌∷◌, length, sym, refl, ap, ◌∙◌, ⊎_elim, arith}
+use Rattle.std.proofs.Common.{◌≡◌, ℕ, zero, suc, ◌<◌, ◌≤◌, List, [], ◌∷◌, map, length, Some, sym, refl, ap, ◌∙◌, ⊎_elim, arith}
 use Rattle.std.proofs.lemmas.Bool.{cases_order, cases_eq, cond-true, cond-false, eq-eqb, ne_eqb}
 use Rattle.logs.specs.declared.side.Side.{Side}
 use Rattle.logs.specs.declared.side.Side.TheVariants.{Leaving, Arriving}
 use Rattle.logs.specs.Sides.{near, other}
 use Rattle.logs.specs.Words.{word}
-use Rattle.logs.specs.History.{chosen, latest}
+use Rattle.logs.specs.History.{chosen, latest, slots_on}
 use Rattle.logs.specs.Opening.{Ranged, head_at, end_at, next_at, Chain, Chains, end, link, none, more, span_at, spans_at}
-use Rattle.logs.specs.Laying.{total}
+use Rattle.books.specs.Adjacent.{slots_below}
 use Rattle.logs.proofs.Ranges.{head_below, end_below, next_below}
 
 pub near_end : (bytes : List ℕ) (n : ℕ) (s : Side) (j : ℕ) → near s (span_at bytes n j) ≡ word bytes (end_at n s j)
@@ -24,7 +24,7 @@ module _ (bytes : List ℕ) (n : ℕ) (s : Side) where
   reach u k = chosen s u (spans_at bytes n k)
 
   abbrev pub count : ℕ → ℕ → ℕ
-  count u k = length (reach u k)
+  count u k = length (map Some (reach u k))
 
   abbrev pub newest : ℕ → ℕ → ℕ
   newest u k = latest s u (spans_at bytes n k)
@@ -37,10 +37,10 @@ module _ (bytes : List ℕ) (n : ℕ) (s : Side) where
   reach_other u j e = cond-false _ _ _ (ne_eqb _ _ (λ o. e (sym (near_end bytes n s j) ∙ o)))
 
   pub count_own : (u j : ℕ) → word bytes (end_at n s j) ≡ u → count u (suc j) ≡ suc (count u j)
-  count_own u j e = ap length (reach_own u j e)
+  count_own u j e = ap (λ xs. length (map Some xs)) (reach_own u j e)
 
   pub count_other : (u j : ℕ) → (word bytes (end_at n s j) ≡ u → ⊥) → count u (suc j) ≡ count u j
-  count_other u j e = ap length (reach_other u j e)
+  count_other u j e = ap (λ xs. length (map Some xs)) (reach_other u j e)
 
   pub newest_own : (u j : ℕ) → word bytes (end_at n s j) ≡ u → newest u (suc j) ≡ suc j
   newest_own u j e = cond-true _ _ _ (eq-eqb _ _ (near_end bytes n s j ∙ e)) ∙ ap suc (length_spans bytes n j)
@@ -146,7 +146,7 @@ module _ (bytes : List ℕ) (n : ℕ) (s : Side) where
 
   -- how many of the first records have an end below a closure
   abbrev pub tally : ℕ → ℕ → ℕ
-  tally u k = total s (spans_at bytes n k) u
+  tally u k = slots_below (slots_on s (spans_at bytes n k)) u
 
   tally_none : (u : ℕ) → tally u 0 ≡ 0
   tally_none zero = refl

@@ -1,20 +1,15 @@
 -- Bytes have one verdict only.
-use Rattle.std.proofs.Common.{◌≡◌, ℕ, zero, suc, ◌<◌, ◌≤◌, List, [], ◌∷◌, Some, None, Option, sym, refl, ap, ◌∙◌, subst, inl, inr, ⊎_elim, arith}
+use Rattle.std.proofs.Common.{◌≡◌, ℕ, zero, suc, ◌<◌, ◌≤◌, List, [], ◌∷◌, sym, refl, ap, ◌∙◌, subst, inl, inr, ⊎_elim, arith}
 use Rattle.std.proofs.lemmas.Bool.{cases_eq, cases_order}
-use Rattle.books.specs.declared.fault.Fault.{Fault}
 use Rattle.books.specs.Faults.{numbered, placed}
 use Rattle.logs.specs.declared.side.Side.{Side}
 use Rattle.logs.specs.declared.side.Side.TheVariants.{Leaving, Arriving}
 use Rattle.logs.specs.declared.span.Span.{Span}
 use Rattle.logs.specs.Words.{word}
-use Rattle.logs.specs.Opening.{Accepted, Among, Chain, Chains, Decided, Foreign, Lost, Outside, Ranged, Refused, Strayed, Strays, Whole, arriving, end, end_at, foreign, head_at, headed, heading, here, leaving, link, lost, more, next_at, none, range, there}
-use Rattle.logs.specs.Drafting.{not_none}
+use Rattle.logs.specs.Opening.{Accepted, Among, Chain, Chains, Decided, Foreign, Lost, Outside, Ranged, Refused, Strayed, Strays, Whole, arriving, end, end_at, foreign, head_at, heading, here, leaving, link, lost, more, next_at, none, range, there}
 use Rattle.logs.proofs.Ranges.{end_below}
 use Rattle.logs.proofs.Canon.{Linked, exact_at, newest, newest_other, newest_own, linked}
 use Rattle.logs.proofs.Back.{accepted_headed, accepted_spans, accepted_whole, first_word}
-
-some_none : (o : Option Fault) (f : Fault) → o ≡ Some f → o ≡ None → ⊥
-some_none o f p q = not_none f (sym p ∙ q)
 
 -- ---- words out of their range
 
@@ -150,25 +145,25 @@ one_refusal : (bytes : List ℕ) (a b p q : ℕ) → Refused bytes a p → Refus
 one_refusal bytes a b p q (heading {e = x} e) (heading {e = y} f) =
     let z : x ≡ y = cc in
     (ap numbered z, ap placed z)
-one_refusal bytes a b p q (heading {e = x} e) (range f o) = absurd (some_none _ x e f)
-one_refusal bytes a b p q (heading {e = x} e) (foreign f r o) = absurd (some_none _ x e f)
-one_refusal bytes a b p q (heading {e = x} e) (lost f r cs ds o) = absurd (some_none _ x e f)
-one_refusal bytes a b p q (range f o) (heading {e = x} e) = absurd (some_none _ x e f)
+one_refusal bytes a b p q (heading {e = x} e) (range f o) = absurd cc
+one_refusal bytes a b p q (heading {e = x} e) (foreign f r o) = absurd cc
+one_refusal bytes a b p q (heading {e = x} e) (lost f r cs ds o) = absurd cc
+one_refusal bytes a b p q (range f o) (heading {e = x} e) = absurd cc
 one_refusal bytes a b p q (range e x) (range f y) = (refl, one_outside bytes (word bytes 0) (word bytes 2) p q x y)
 one_refusal bytes a b p q (range e x) (foreign f r o) = absurd (not_outside bytes (word bytes 0) (word bytes 2) p r x)
 one_refusal bytes a b p q (range e x) (lost f r cs ds o) = absurd (not_outside bytes (word bytes 0) (word bytes 2) p r x)
-one_refusal bytes a b p q (foreign f r o) (heading {e = x} e) = absurd (some_none _ x e f)
+one_refusal bytes a b p q (foreign f r o) (heading {e = x} e) = absurd cc
 one_refusal bytes a b p q (foreign f r o) (range e x) = absurd (not_outside bytes (word bytes 0) (word bytes 2) q r x)
 one_refusal bytes a b p q (foreign e r x) (foreign f t y) = (refl, one_foreign bytes (word bytes 0) p q x y)
 one_refusal bytes a b p q (foreign e r x) (lost {t = t} {r = w} f z cs ds o) = absurd (not_foreign bytes (word bytes 0) p t w cs ds x)
-one_refusal bytes a b p q (lost f r cs ds o) (heading {e = x} e) = absurd (some_none _ x e f)
+one_refusal bytes a b p q (lost f r cs ds o) (heading {e = x} e) = absurd cc
 one_refusal bytes a b p q (lost f r cs ds o) (range e x) = absurd (not_outside bytes (word bytes 0) (word bytes 2) q r x)
 one_refusal bytes a b p q (lost {t = t} {r = w} f z cs ds o) (foreign e r x) = absurd (not_foreign bytes (word bytes 0) q t w cs ds x)
 one_refusal bytes a b p q (lost e r cs ds x) (lost f t es fs y) = (refl, refl)
 
 -- a log is not refused
 pub not_refused : (bytes : List ℕ) (n a p : ℕ) (h : List Span) → Accepted bytes n h → Refused bytes a p → ⊥
-not_refused bytes n a p h x (heading {e = f} e) = some_none (headed bytes) f e (accepted_headed bytes n h x)
+not_refused bytes n a p h x (heading {e = f} e) = let none = accepted_headed bytes n h x in cc
 not_refused bytes n a p h x (range e o) = not_outside bytes (word bytes 0) (word bytes 2) p (accepted_whole bytes n h x).ranged o
 not_refused bytes n a p h x (foreign e r o) =
     let w = accepted_whole bytes n h x in

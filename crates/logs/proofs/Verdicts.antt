@@ -1,56 +1,53 @@
 -- The verdict on bytes, from what each test found.
-use Rattle.std.proofs.Common.{◌≡◌, ℕ, zero, suc, ◌+◌, ◌*◌, ◌<◌, ◌≤◌, true, ◌⊎◌, List, length, get_or, None, sym, refl, subst, ⊎_elim, arith}
-use Rattle.std.proofs.lemmas.Bool.Decides.{nat_tests}
+use Rattle.std.proofs.Common.{◌≡◌, ℕ, zero, suc, ◌+◌, ◌*◌, ◌<◌, ◌≤◌, true, ◌⊎◌, List, get_or, None, sym, refl, subst, ⊎_elim, arith}
+use Rattle.logs.specs.declared.opening.Bounded.{Bounded}
+use Rattle.logs.specs.declared.opening.Measured.{Measured}
 use Rattle.logs.specs.declared.side.Side.{Side}
 use Rattle.logs.specs.declared.side.Side.TheVariants.{Leaving, Arriving}
 use Rattle.logs.specs.Words.{word}
-use Rattle.logs.specs.History.{inside, size}
+use Rattle.logs.specs.History.{inside}
 use Rattle.logs.specs.Opening.{Accepted, Chains, Foreign, Lost, Outside, Ranged, Refused, Strayed, Whole, arriving, foreign, headed, leaving, lost, range, span_at, spans_at}
 use Rattle.logs.specs.Drafting.{inside_more}
 use Rattle.logs.proofs.Ranges.{end_below}
 use Rattle.logs.proofs.Canon.{length_spans}
 use Rattle.logs.proofs.Afresh.{afresh}
+use Rattle.logs.proofs.Back.{headed_ok}
 use Rattle.logs.proofs.Missing.{missing}
 
--- the first two words passed
-pub record Passed (bytes : List ℕ) (n m : ℕ) : Type 0 where
-  pub ok : headed bytes ≡ None
-  pub closures : n ≡ word bytes 0
-  pub records : m ≡ word bytes 2
+module _ (log : Measured) where
+  -- the heading of measured bytes is passed
+  passed : headed log.bytes.now ≡ None
+  passed =
+      headed_ok log.bytes.now log.header.n log.header.m (sym log.first) (sym log.second) log.some log.few log.short log.len
 
-pub passed : (bytes : List ℕ) (n m : ℕ) → None ≡ headed bytes → (n ≡ word bytes 0) × (m ≡ word bytes 2) → Passed bytes n m
-passed bytes n m e w = record { ok = sym e; closures = w.0; records = w.1 }
+  -- what is said of its numbers is said of the first two words
+  at_words : (P : ℕ → ℕ → Type 0) → P log.header.n log.header.m → P (word log.bytes.now 0) (word log.bytes.now 2)
+  at_words P x = subst (λ b. P (word log.bytes.now 0) b) log.second (subst (λ a. P a log.header.m) log.first x)
 
-pub passed_tells : (bytes : List ℕ) (n m : ℕ) → Passed bytes n m → (1 ≤ n) × (n ≤ 1024) × (m ≤ 4096) × (length bytes ≡ size n m)
-passed_tells bytes n m p =
-    let e = p.ok in
-    let a = p.closures in
-    let b = p.records in
-    (grind (arith, nat_tests), grind (arith, nat_tests), grind (arith, nat_tests), grind (arith, nat_tests))
+  pub by_range : (number place : ℕ) → number ≡ 5 → Outside log.bytes.now log.header.n log.header.m place → Refused log.bytes.now number place
+  by_range number place e o =
+      rw e (range passed (at_words (λ a b. Outside log.bytes.now a b place) o))
 
--- what is said of n closures and m records is said of the first two words
-at_words : (bytes : List ℕ) (n m : ℕ) (P : ℕ → ℕ → Type 0) → Passed bytes n m → P n m → P (word bytes 0) (word bytes 2)
-at_words bytes n m P p x = subst (λ b. P (word bytes 0) b) p.records (subst (λ a. P a m) p.closures x)
+module _ (b : Bounded) where
+  by_foreign : (number place : ℕ) → number ≡ 6 → Foreign b.log.bytes.now b.log.header.n place → Refused b.log.bytes.now number place
+  by_foreign number place e o =
+      rw e (foreign (passed b.log) (at_words b.log (λ n m. Ranged b.log.bytes.now n m) b.ranged) (at_words b.log (λ n m. Foreign b.log.bytes.now n place) o))
 
-pub by_range : (bytes : List ℕ) (n m number place : ℕ) → Passed bytes n m → number ≡ 5 → Outside bytes n m place → Refused bytes number place
-by_range bytes n m number place p e o = rw e (range p.ok (at_words bytes n m (λ a b. Outside bytes a b place) p o))
+  pub by_leaving : (number place : ℕ) → number ≡ 6 → Strayed b.log.bytes.now b.log.header.n Leaving place → Refused b.log.bytes.now number place
+  by_leaving number place e o = by_foreign number place e (leaving o)
 
-by_foreign : (bytes : List ℕ) (n m number place : ℕ) → Passed bytes n m → Ranged bytes n m → number ≡ 6 → Foreign bytes n place → Refused bytes number place
-by_foreign bytes n m number place p r e o =
-    rw e (foreign p.ok (at_words bytes n m (λ a b. Ranged bytes a b) p r) (at_words bytes n m (λ a b. Foreign bytes a place) p o))
+  pub by_arriving : (number place t : ℕ) → Chains b.log.bytes.now b.log.header.n Leaving b.log.header.n t → number ≡ 6 → Strayed b.log.bytes.now b.log.header.n Arriving place → Refused b.log.bytes.now number place
+  by_arriving number place t cs e o = by_foreign number place e (arriving cs o)
 
-pub by_leaving : (bytes : List ℕ) (n m number place : ℕ) → Passed bytes n m → Ranged bytes n m → number ≡ 6 → Strayed bytes n Leaving place → Refused bytes number place
-by_leaving bytes n m number place p r e o = by_foreign bytes n m number place p r e (leaving o)
-
-pub by_arriving : (bytes : List ℕ) (n m number place t : ℕ) → Passed bytes n m → Ranged bytes n m → Chains bytes n Leaving n t → number ≡ 6 → Strayed bytes n Arriving place → Refused bytes number place
-by_arriving bytes n m number place t p r cs e o = by_foreign bytes n m number place p r e (arriving cs o)
-
-pub by_lost : (bytes : List ℕ) (n m t q : ℕ) → Passed bytes n m → Ranged bytes n m → Chains bytes n Leaving n t → Chains bytes n Arriving n q → (t ≡ m → ⊥) ⊎ (q ≡ m → ⊥) → Refused bytes 7 (4 + 4 * n)
-by_lost bytes n m t q p r cs ds e =
-    let since : (s : Side) → Lost bytes n m s → Refused bytes 7 (4 + 4 * n) = λ s x.
-    subst (λ y. Refused bytes 7 (4 + 4 * y)) (sym p.closures)
-    (lost p.ok (at_words bytes n m (λ a b. Ranged bytes a b) p r) (at_words bytes n m (λ a b. Chains bytes a Leaving a t) p cs) (at_words bytes n m (λ a b. Chains bytes a Arriving a q) p ds) (at_words bytes n m (λ a b. Lost bytes a b s) p x)) in
-    ⊎_elim (λ x. since Leaving (missing bytes n Leaving m t r cs x)) (λ x. since Arriving (missing bytes n Arriving m q r ds x)) e
+  pub by_lost : (t q : ℕ) → Chains b.log.bytes.now b.log.header.n Leaving b.log.header.n t → Chains b.log.bytes.now b.log.header.n Arriving b.log.header.n q → (t ≡ b.log.header.m → ⊥) ⊎ (q ≡ b.log.header.m → ⊥) → Refused b.log.bytes.now 7 (4 + 4 * b.log.header.n)
+  by_lost t q cs ds e =
+      let bytes = b.log.bytes.now in
+      let n = b.log.header.n in
+      let m = b.log.header.m in
+      let since : (s : Side) → Lost b.log.bytes.now b.log.header.n b.log.header.m s → Refused b.log.bytes.now 7 (4 + 4 * b.log.header.n) = λ s x.
+      subst (λ y. Refused bytes 7 (4 + 4 * y)) (sym b.log.first)
+      (lost (passed b.log) (at_words b.log (λ n m. Ranged bytes n m) b.ranged) (at_words b.log (λ n m. Chains bytes n Leaving n t) cs) (at_words b.log (λ n m. Chains bytes n Arriving n q) ds) (at_words b.log (λ n m. Lost bytes n m s) x)) in
+      ⊎_elim (λ x. since Leaving (missing bytes n Leaving m t b.ranged cs x)) (λ x. since Arriving (missing bytes n Arriving m q b.ranged ds x)) e
 
 inside_spans : (bytes : List ℕ) (n m k : ℕ) → Ranged bytes n m → k ≤ m → inside n (spans_at bytes n k) ≡ true
 inside_spans bytes n m zero r h = refl
@@ -61,18 +58,23 @@ both_sides : (bytes : List ℕ) (n m : ℕ) → Chains bytes n Leaving n m → C
 both_sides bytes n m cs ds Leaving = cs
 both_sides bytes n m cs ds Arriving = ds
 
-pub whole_at : (bytes : List ℕ) (n m t q : ℕ) → Ranged bytes n m → Chains bytes n Leaving n t → Chains bytes n Arriving n q → t ≡ m → q ≡ m → Whole bytes n m
-whole_at bytes n m t q r cs ds e f =
-    record { ranged = r; chains = both_sides bytes n m (subst (λ x. Chains bytes n Leaving n x) e cs) (subst (λ x. Chains bytes n Arriving n x) f ds) }
+pub whole_at : (b : Bounded) (t q : ℕ) → Chains b.log.bytes.now b.log.header.n Leaving b.log.header.n t → Chains b.log.bytes.now b.log.header.n Arriving b.log.header.n q → t ≡ b.log.header.m → q ≡ b.log.header.m → Whole b.log.bytes.now b.log.header.n b.log.header.m
+whole_at b t q cs ds e f =
+    let bytes = b.log.bytes.now in
+    let n = b.log.header.n in
+    record { ranged = b.ranged; chains = both_sides bytes n b.log.header.m (subst (λ x. Chains bytes n Leaving n x) e cs) (subst (λ x. Chains bytes n Arriving n x) f ds) }
 
-pub by_whole : (bytes : List ℕ) (n m : ℕ) → ((i : ℕ) → get_or bytes i 0 < 256) → Passed bytes n m → Whole bytes n m → Accepted bytes n (spans_at bytes n m)
-by_whole bytes n m y p w =
-    let h = passed_tells bytes n m p in
+-- the log of its spans, where the chains of both sides have every record
+pub by_whole : (b : Bounded) (t q : ℕ) → ((i : ℕ) → get_or b.log.bytes.now i 0 < 256) → Chains b.log.bytes.now b.log.header.n Leaving b.log.header.n t → Chains b.log.bytes.now b.log.header.n Arriving b.log.header.n q → t ≡ b.log.header.m → q ≡ b.log.header.m → Accepted b.log.bytes.now b.log.header.n (spans_at b.log.bytes.now b.log.header.n b.log.header.m)
+by_whole b t q y cs ds e f =
+    let bytes = b.log.bytes.now in
+    let n = b.log.header.n in
+    let m = b.log.header.m in
     let l = length_spans bytes n m in
     record {
-      written = afresh bytes n m h.3 y p.closures p.records w;
-      some = h.0;
-      few = h.1;
-      short = omega (arith, h.2);
-      inside = inside_spans bytes n m m w.ranged (omega arith);
+      written = afresh bytes n m b.log.len y b.log.first b.log.second (whole_at b t q cs ds e f);
+      some = b.log.some;
+      few = b.log.few;
+      short = omega (arith, b.log.short);
+      inside = inside_spans bytes n m m b.ranged (omega arith);
     }

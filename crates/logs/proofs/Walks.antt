@@ -32,13 +32,6 @@ module _ (bytes : List ℕ) (n m : ℕ) (s : Side) (u : ℕ) where
       let k = w.chain [] (end e) in
       (k.0, (k.1.0, omega (arith, k.1.1)))
 
-  -- the place of an end is in the bytes
-  pub end_within : (place count j at : ℕ) → Walking place count → word bytes place ≡ suc j → at ≡ end_at n s j → at + 1 < size n m
-  end_within place count j at w e f =
-      let h = w.falls in
-      let c = column_few s in
-      omega arith
-
   pub walk_strays : (place count j at near : ℕ) → Walking place count → word bytes place ≡ suc j → at ≡ end_at n s j → near ≡ word bytes at → (near ≡ u → ⊥) → Strays bytes n s u (head_at s u) place
   walk_strays place count j at near w e f g foreign =
       w.strays place (here e (λ same. foreign (g ∙ ap (word bytes) f ∙ same)))

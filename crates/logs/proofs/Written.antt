@@ -1,31 +1,43 @@
 -- A list of spans, added one by one.
-use Rattle.std.proofs.Common.{◌≡◌, ℕ, suc, ◌+◌, ◌<◌, ◌≤◌, List, [], ◌∷◌, ◌++◌, reverse, length, get_or, take, drop, Some, None, Option, sym, refl, ap, ◌∙◌, subst, arith}
-use Rattle.std.proofs.lemmas.List.{append_assoc, append-nil, drop_all, drop_more, take_all, take_more}
+use Rattle.std.proofs.Common.{◌≡◌, ℕ, suc, ◌+◌, ◌<◌, ◌≤◌, List, [], ◌∷◌, ◌++◌, reverse, length, get_or, take, drop, Some, None, Option, sym, ap, ◌∙◌, subst, arith}
+use Rattle.std.proofs.lemmas.List.{append_assoc, append-nil, drop_all, drop_more, length-reverse, length-take-le, reverse-append, take_all, take_more}
 use Rattle.books.specs.declared.fault.Fault.{Fault}
 use Rattle.logs.specs.declared.span.Span.{Span}
 use Rattle.logs.specs.Drafts.{Drafted, Wrote, fitting, refuses}
-use Rattle.logs.specs.History.{newest_first, unsealed}
+use Rattle.logs.specs.History.{unsealed}
 use Rattle.logs.specs.Writing.{adding, left_off, taken, writing}
 use Rattle.logs.specs.Drafting.{length_drafted}
-use Rattle.logs.specs.Showing.{length_newest, newest_more}
+
+-- ---- the history of the first spans of a list, whose oldest is first
+
+abbrev pub newest_first : List Span → ℕ → List Span
+newest_first spans m = reverse (take m spans)
+
+length_newest : (xs : List Span) (m : ℕ) → m ≤ length xs → length (newest_first xs m) ≡ m
+length_newest xs m l = length-reverse (take m xs) ∙ length-take-le m xs l
+
+newest_more : (xs : List Span) (m : ℕ) (d : Span) → m < length xs → newest_first xs (suc m) ≡ get_or xs m d ∷ newest_first xs m
+newest_more xs m d l =
+    let e : suc m ≡ m + 1 = omega arith in
+    ap (newest_first xs) e ∙ ap reverse (take_more xs m d l) ∙ reverse-append (take m xs) (get_or xs m d ∷ [])
 
 -- ---- one span
 
 pub adding_on : (n len m : ℕ) (s : Span) (later : List Span) → refuses n m len s ≡ None → adding n len m (s ∷ later) ≡ adding n len (suc m) later
 unfolding adding
-adding_on n len m s later e = ap (λ o. elim o [ Some x ↦ Some x | None ↦ adding n len (suc m) later ]) e
+adding_on n len m s later e = rw (e, adding)
 
 pub adding_refused : (n len m : ℕ) (s : Span) (later : List Span) (x : Fault) → refuses n m len s ≡ Some x → adding n len m (s ∷ later) ≡ Some x
 unfolding adding
-adding_refused n len m s later x e = ap (λ o. elim o [ Some y ↦ Some y | None ↦ adding n len (suc m) later ]) e
+adding_refused n len m s later x e = rw (e, adding)
 
 taken_on : (n len m : ℕ) (s : Span) (later : List Span) → refuses n m len s ≡ None → taken n len m (s ∷ later) ≡ s ∷ taken n len (suc m) later
 unfolding taken
-taken_on n len m s later e = ap (λ o. elim o [ Some x ↦ [] | None ↦ s ∷ taken n len (suc m) later ]) e
+taken_on n len m s later e = rw (e, taken)
 
 taken_refused : (n len m : ℕ) (s : Span) (later : List Span) (x : Fault) → refuses n m len s ≡ Some x → taken n len m (s ∷ later) ≡ []
 unfolding taken
-taken_refused n len m s later x e = ap (λ o. elim o [ Some y ↦ [] | None ↦ s ∷ taken n len (suc m) later ]) e
+taken_refused n len m s later x e = rw (e, taken)
 
 -- ---- the spans so far
 
@@ -34,10 +46,6 @@ pub record Onward (before : List ℕ) (n : ℕ) (spans : List Span) (i m : ℕ) 
   pub drafted : Drafted before n m (newest_first spans i) buffer
   pub answer : adding n (length before) 0 spans ≡ adding n (length before) i (drop i spans)
   pub takes : taken n (length before) 0 spans ≡ take i spans ++ taken n (length before) i (drop i spans)
-
-pub onward_none : (before : List ℕ) (n k m : ℕ) (spans : List Span) (buffer : List ℕ) → k ≡ n → Drafted before k m [] buffer → Onward before n spans 0 m buffer
-onward_none before n k m spans buffer q d =
-    record { drafted = subst (λ x. Drafted before x m [] buffer) q d; answer = refl; takes = refl }
 
 -- what a draft of k closures answers is what is asked of the i-th span
 asked : (before : List ℕ) (n k : ℕ) (spans : List Span) (i m : ℕ) (buffer : List ℕ) (s : Span) (o : Option Fault) → k ≡ n → Onward before n spans i m buffer → i < length spans → o ≡ refuses k m (length buffer) s → refuses n i (length before) s ≡ o
@@ -72,19 +80,19 @@ onward_more before n k k' spans i m m' buffer buffer' d q q' w h e grows =
 
 pub fitting_answer : (n len : ℕ) (spans : List Span) → fitting n len ≡ None → writing n len spans ≡ adding n len 0 spans
 unfolding writing
-fitting_answer n len spans e = ap (λ o. elim o [ Some x ↦ Some x | None ↦ adding n len 0 spans ]) e
+fitting_answer n len spans e = rw (e, writing)
 
 fitting_left : (n : ℕ) (spans : List Span) (before : List ℕ) → fitting n (length before) ≡ None → left_off n spans before ≡ unsealed n (reverse (taken n (length before) 0 spans)) before
 unfolding left_off
-fitting_left n spans before e = ap (λ o. elim o [ Some x ↦ before | None ↦ unsealed n (reverse (taken n (length before) 0 spans)) before ]) e
+fitting_left n spans before e = rw (e, left_off)
 
 pub unfit_answer : (n len : ℕ) (spans : List Span) (x : Fault) → Some x ≡ fitting n len → Some x ≡ writing n len spans
 unfolding writing
-unfit_answer n len spans x e = ap (λ o. elim o [ Some y ↦ Some y | None ↦ adding n len 0 spans ]) e
+unfit_answer n len spans x e = rw (← e, writing)
 
 pub unfit_left : (n : ℕ) (spans : List Span) (before : List ℕ) (x : Fault) → Some x ≡ fitting n (length before) → before ≡ left_off n spans before
 unfolding left_off
-unfit_left n spans before x e = ap (λ o. elim o [ Some y ↦ before | None ↦ unsealed n (reverse (taken n (length before) 0 spans)) before ]) e
+unfit_left n spans before x e = rw (← e, left_off)
 
 pub refused_answer : (before : List ℕ) (n k : ℕ) (spans : List Span) (i m : ℕ) (buffer : List ℕ) (d : Span) (x : Fault) → k ≡ n → None ≡ fitting n (length before) → Onward before n spans i m buffer → i < length spans → Some x ≡ refuses k m (length buffer) (get_or spans i d) → Some x ≡ writing n (length before) spans
 refused_answer before n k spans i m buffer d x q f w h e =

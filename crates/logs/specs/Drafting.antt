@@ -1,24 +1,20 @@
 -- How the bytes of a draft follow its history.
-use Rattle.std.specs.Prelude.{◌≡◌, ℕ, zero, suc, ◌+◌, ◌*◌, ◌<◌, ◌≤◌, true, false, List, [], ◌∷◌, ◌++◌, length, take, drop, replicate, Some, None, Option, slice_set, refl}
+use Rattle.std.specs.Prelude.{◌≡◌, ℕ, zero, suc, ◌+◌, ◌*◌, ◌<◌, ◌≤◌, true, false, List, [], ◌∷◌, ◌++◌, length, take, drop, replicate, None, slice_set, refl}
 use Rattle.std.proofs.Common.{sym, ap, ◌∙◌, arith}
 use borrow.Rule.Slice.PartMut.{put_mid}
 use Rattle.std.proofs.lemmas.List.{append_assoc, append-nil, length-append, length-drop, length-set, length-take-le, set-append_left, take_at, drop_at, drop-drop, replicate-append-replicate}
 use Rattle.std.proofs.lemmas.Bool.{and_from, and_parts, cond-false, lt-ltb, ltb-true, or_from, ne_eqb, le-ltb}
 use Rattle.std.proofs.lemmas.Bool.Decides.{nat_tests}
-use Rattle.books.specs.declared.fault.Fault.{Fault}
 use Rattle.logs.specs.declared.side.Side.{Side}
 use Rattle.logs.specs.declared.side.Side.TheVariants.{Leaving, Arriving}
 use Rattle.logs.specs.declared.span.Span.{Span}
 use Rattle.logs.specs.Sides.{near}
 use Rattle.logs.specs.Words.{spread, word, put}
-use Rattle.logs.specs.History.{inside, latest, heads, record_of, entries, size, encode, unsealed}
+use Rattle.logs.specs.History.{inside, heads, record_of, entries, size, encode, unsealed}
 use Rattle.logs.specs.Opening.{Accepted, head_at}
 use Rattle.logs.specs.Drafts.{Drafted, Wrote, added, behind, empty, fitting, sealed, sealed_length}
 use Rattle.logs.specs.Spread.{spread_append, put_spread}
 use Rattle.logs.specs.Placing.{words, length_words, length_bytes, length_encode, length_heads, head_word, heads_more, entries_more}
-
-pub not_none : (x : Fault) → ◌≡◌ {A = Option Fault} (Some x) None → ⊥
-not_none x e = let z : ◌≡◌ {A = ℕ} 0 1 = cc in omega arith
 
 -- every span of a history is inside where the newest is and the older ones are
 pub inside_more : (n : ℕ) (s : Span) (h : List Span) → s.from < n → s.to < n → inside n h ≡ true → inside n (s ∷ h) ≡ true
@@ -87,35 +83,22 @@ length_drafted before n m h buffer d =
 -- what the code writes is `added`
 pub writes : (buffer part one two : List ℕ) (n m out into k at p q : ℕ) (s : Span) → k ≡ 8 → at ≡ size n m → p ≡ head_at Leaving s.from → q ≡ head_at Arriving s.to → out ≡ word buffer p → into ≡ word buffer q → part ≡ spread (s.from ∷ s.to ∷ out ∷ into ∷ []) → one ≡ put (put_mid at k buffer part) p (m + 1) → two ≡ put one q (m + 1) → two ≡ added n m buffer s
 writes buffer part one two n m out into k at p q s e8 ea f t eo ei ep e1 e2 =
-    let words : part ≡ spread (s.from ∷ s.to ∷ word buffer (head_at Leaving s.from) ∷ word buffer (head_at Arriving s.to) ∷ []) =
-    ep ∙ rw (eo, ei, f, t) in
-    let mid : put_mid at k buffer part ≡ behind n m buffer s =
-    ap (λ x. put_mid at x buffer part) e8
-    ∙ ap (λ x. put_mid x 8 buffer part) ea
-    ∙ ap (put_mid (size n m) 8 buffer) words
-    ∙ ap (λ x. take (size n m) buffer ++ (spread (s.from ∷ s.to ∷ word buffer (head_at Leaving s.from) ∷ word buffer (head_at Arriving s.to) ∷ []) ++ x)) (drop-drop 8 (size n m) buffer) in
-    e2
-    ∙ ap (λ x. put x q (m + 1)) (e1 ∙ ap (λ x. put x p (m + 1)) mid)
-    ∙ ap (λ x. put (put (behind n m buffer s) x (m + 1)) q (m + 1)) f
-    ∙ ap (λ x. put (put (behind n m buffer s) (head_at Leaving s.from) (m + 1)) x (m + 1)) t
+    rw (e2, e1, ep, eo, ei, f, t, ea, e8, drop-drop 8 (size n m) buffer)
 
 -- a record behind the words of a draft
 behind_words : (n m : ℕ) (h : List Span) (s : Span) (buffer rest : List ℕ) → m ≡ length h → buffer ≡ spread (words 0 0 n h) ++ rest → s.from < n → s.to < n → behind n m buffer s ≡ spread (words 0 0 n h ++ record_of s h) ++ drop 8 rest
 behind_words n m h s buffer rest c b i j =
     let ws = words 0 0 n h in
     let l : length (spread (words 0 0 n h)) ≡ size n m = length_bytes 0 0 n h ∙ ap (size n) (sym c) in
-    let f : word (spread (words 0 0 n h) ++ rest) (head_at Leaving s.from) ≡ latest Leaving s.from h = head_word 0 0 n h rest Leaving s.from i in
-    let t : word (spread (words 0 0 n h) ++ rest) (head_at Arriving s.to) ≡ latest Arriving s.to h = head_word 0 0 n h rest Arriving s.to j in
-    let a : take (size n m) (spread (words 0 0 n h) ++ rest) ≡ spread (words 0 0 n h) = take_at (spread ws) rest (size n m) l in
-    let z : drop (size n m + 8) (spread (words 0 0 n h) ++ rest) ≡ drop 8 rest =
-    sym (drop-drop 8 (size n m) (spread ws ++ rest)) ∙ ap (drop 8) (drop_at (spread ws) rest (size n m) l) in
-    ap (λ x. behind n m x s) b
-    ∙ ap (λ x. x ++ (spread (s.from ∷ s.to ∷ word (spread ws ++ rest) (head_at Leaving s.from) ∷ word (spread ws ++ rest) (head_at Arriving s.to) ∷ []) ++ drop (size n m + 8) (spread ws ++ rest))) a
-    ∙ ap (λ x. spread ws ++ (spread (s.from ∷ s.to ∷ x ∷ word (spread ws ++ rest) (head_at Arriving s.to) ∷ []) ++ drop (size n m + 8) (spread ws ++ rest))) f
-    ∙ ap (λ x. spread ws ++ (spread (s.from ∷ s.to ∷ latest Leaving s.from h ∷ x ∷ []) ++ drop (size n m + 8) (spread ws ++ rest))) t
-    ∙ ap (λ x. spread ws ++ (spread (record_of s h) ++ x)) z
-    ∙ sym (append_assoc (spread ws) (spread (record_of s h)) (drop 8 rest))
-    ∙ ap (λ x. x ++ drop 8 rest) (sym (spread_append ws (record_of s h)))
+    rw (
+      b,
+      take_at (spread ws) rest (size n m) l,
+      head_word 0 0 n h rest Leaving s.from i,
+      head_word 0 0 n h rest Arriving s.to j,
+      ← drop-drop 8 (size n m) (spread ws ++ rest),
+      drop_at (spread ws) rest (size n m) l,
+    )
+    (sym (append_assoc (spread ws) (spread (record_of s h)) (drop 8 rest)) ∙ ap (λ x. x ++ drop 8 rest) (sym (spread_append ws (record_of s h))))
 
 -- the words of the heads written anew, before a record that is written already
 anew : (n : ℕ) (s : Span) (h : List Span) → s.from < n → s.to < n → slice_set (slice_set (words 0 0 n h ++ record_of s h) (suc (suc (2 * s.from + 0))) (suc (length h))) (suc (suc (2 * s.to + 1))) (suc (length h)) ≡ words 0 0 n (s ∷ h)
@@ -125,14 +108,13 @@ anew n s h i j =
     let tail = entries h ++ record_of s h in
     let one = slice_set (heads n h) (2 * s.from + 0) w in
     let k : length (slice_set (heads n h) (2 * s.from + 0) (suc (length h))) ≡ 2 * n = length-set (heads n h) (2 * s.from + 0) w ∙ l in
-    let t : (heads n h ++ entries h) ++ record_of s h ≡ heads n h ++ (entries h ++ record_of s h) = append_assoc (heads n h) (entries h) (record_of s h) in
-    let body : slice_set (slice_set ((heads n h ++ entries h) ++ record_of s h) (2 * s.from + 0) (suc (length h))) (2 * s.to + 1) (suc (length h)) ≡ heads n (s ∷ h) ++ entries (s ∷ h) =
-    ap (λ x. slice_set (slice_set x (2 * s.from + 0) w) (2 * s.to + 1) w) t
-    ∙ ap (λ x. slice_set x (2 * s.to + 1) w) (set-append_left (heads n h) tail (2 * s.from + 0) w (omega arith))
-    ∙ set-append_left one tail (2 * s.to + 1) w (omega arith)
-    ∙ ap (λ x. x ++ tail) (heads_more n s h)
-    ∙ ap (λ x. heads n (s ∷ h) ++ x) (sym (entries_more s h)) in
-    ap (λ x. 0 ∷ 0 ∷ x) body
+    rw (
+      append_assoc (heads n h) (entries h) (record_of s h),
+      set-append_left (heads n h) tail (2 * s.from + 0) w (omega arith),
+      set-append_left one tail (2 * s.to + 1) w (omega arith),
+      heads_more n s h,
+      entries_more s h,
+    )
 
 pub grown : (before buffer two : List ℕ) (n m : ℕ) (s : Span) (h : List Span) → Drafted before n m h buffer → s.from < n → s.to < n → m < 4096 → size n m + 8 ≤ length buffer → two ≡ added n m buffer s → Drafted before n (m + 1) (s ∷ h) two
 unfolding unsealed
@@ -157,15 +139,17 @@ grown before buffer two n m s h d i j few room e =
       room = omega arith;
       inside = inside_more n s h i j d.inside;
       bytes =
-          e
-          ∙ ap (λ x. put (put x (head_at Leaving s.from) (m + 1)) (head_at Arriving s.to) (m + 1)) (behind_words n m h s buffer rest c d.bytes i j)
-          ∙ ap (λ x. put (put (spread ws ++ drop 8 rest) x (m + 1)) (head_at Arriving s.to) (m + 1)) pf
-          ∙ ap (λ x. put (put (spread ws ++ drop 8 rest) (2 * suc (suc (2 * s.from + 0))) (m + 1)) x (m + 1)) pt
-          ∙ ap (λ x. put (put (spread ws ++ drop 8 rest) (2 * suc (suc (2 * s.from + 0))) x) (2 * suc (suc (2 * s.to + 1))) x) w
-          ∙ ap (λ x. put x (2 * suc (suc (2 * s.to + 1))) (suc (length h))) (put_spread ws (drop 8 rest) (suc (suc (2 * s.from + 0))) (suc (length h)) (omega arith))
-          ∙ put_spread one (drop 8 rest) (suc (suc (2 * s.to + 1))) (suc (length h)) (omega arith)
-          ∙ ap (λ x. spread x ++ drop 8 rest) (anew n s h i j)
-          ∙ ap (λ x. spread (words 0 0 n (s ∷ h)) ++ x) (drop-drop 8 (size n (length h)) before ∙ ap (λ x. drop x before) sz);
+          rw (
+            e,
+            behind_words n m h s buffer rest c d.bytes i j,
+            pf,
+            pt,
+            w,
+            put_spread ws (drop 8 rest) (suc (suc (2 * s.from + 0))) (suc (length h)) (omega arith),
+            put_spread one (drop 8 rest) (suc (suc (2 * s.to + 1))) (suc (length h)) (omega arith),
+          )
+          (ap (λ x. spread x ++ drop 8 rest) (anew n s h i j)
+          ∙ ap (λ x. spread (words 0 0 n (s ∷ h)) ++ x) (drop-drop 8 (size n (length h)) before ∙ ap (λ x. drop x before) sz));
     }
 
 -- ---- the seal

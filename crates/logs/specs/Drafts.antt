@@ -30,11 +30,11 @@ pub record Drafted (before : List ℕ) (n m : ℕ) (h : List Span) (buffer : Lis
 
 -- a draft with a history, over a buffer that held `before`
 abbrev pub DraftOf : List ℕ → List Span → Draft → Type 0
-DraftOf before h draft = Drafted before draft.n draft.m h draft.buffer.now
+DraftOf before h draft = Drafted before draft.header.n draft.header.m h draft.buffer.now
 
 -- a draft with nothing in it, over a buffer that holds what it held
 abbrev pub Void : List ℕ → Draft → Type 0
-Void before draft = (draft.n ≡ 0) × (draft.m ≡ 0) × (draft.buffer.now ≡ before)
+Void before draft = (draft.header.n ≡ 0) × (draft.header.m ≡ 0) × (draft.buffer.now ≡ before)
 
 -- a buffer with a record behind the first m, which leads on to the records that its closures' heads led to
 abbrev pub behind : ℕ → ℕ → List ℕ → Span → List ℕ
@@ -48,7 +48,7 @@ added n m buffer s = put (put (behind n m buffer s) (head_at Leaving s.from) (m 
 
 -- a draft before and after a span was added
 abbrev pub Added : Span → Draft → Draft → Type 0
-Added s old new = (new.m ≡ old.m + 1) × (new.buffer.now ≡ added old.n old.m old.buffer.now s)
+Added s old new = (new.header.m ≡ old.header.m + 1) × (new.buffer.now ≡ added old.header.n old.header.m old.buffer.now s)
 
 -- its history has that span more
 abbrev pub Grows : Span → Draft → Draft → Type 0
@@ -74,4 +74,4 @@ pub record Wrote (n : ℕ) (h : List Span) (before : List ℕ) (len : ℕ) (afte
 
 -- a draft was sealed: the buffer holds the log of its history
 abbrev pub Seals : Draft → ℕ → List ℕ → Type 0
-Seals draft len after = (before : List ℕ) (h : List Span) → DraftOf before h draft → Wrote draft.n h before len after
+Seals draft len after = (before : List ℕ) (h : List Span) → DraftOf before h draft → Wrote draft.header.n h before len after

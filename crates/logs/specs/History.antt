@@ -1,14 +1,10 @@
 -- A log means a number of closures and a history: its spans, newest first.
-use Rattle.std.specs.Prelude.{ℕ, zero, suc, ◌+◌, ◌*◌, Bool, true, false, cond, ◌&&◌, List, [], ◌∷◌, ◌++◌, map, reverse, length, take, drop, Some, None, Option, ◌==◌, nat_lt}
+use Rattle.std.specs.Prelude.{ℕ, zero, suc, ◌+◌, ◌*◌, Bool, true, cond, ◌&&◌, List, [], ◌∷◌, ◌++◌, map, length, drop, Some, None, Option, ◌==◌, nat_lt}
 use Rattle.logs.specs.declared.side.Side.{Side}
 use Rattle.logs.specs.declared.side.Side.TheVariants.{Leaving, Arriving}
 use Rattle.logs.specs.declared.span.Span.{Span}
 use Rattle.logs.specs.Sides.{near, far}
 use Rattle.logs.specs.Words.{spread}
-
--- the history of the first m spans of a list, whose oldest is first
-abbrev pub newest_first : List Span → ℕ → List Span
-newest_first spans m = reverse (take m spans)
 
 -- every span of a history is between closures below n
 abbrev pub inside : ℕ → List Span → Bool
@@ -29,13 +25,6 @@ leaving = slots_on Leaving
 
 abbrev pub arriving : List Span → ℕ → List (Option ℕ)
 arriving = slots_on Arriving
-
--- whether two lists of slots are equal
-abbrev pub same : List (Option ℕ) → List (Option ℕ) → Bool
-same [] [] = true
-same [] (y ∷ ys) = false
-same (x ∷ xs) [] = false
-same (x ∷ xs) (y ∷ ys) = elim x [ Some a ↦ elim y [ Some b ↦ (a == b) && same xs ys | None ↦ false ] | None ↦ elim y [ Some b ↦ false | None ↦ same xs ys ] ]
 
 -- the record of a number; the oldest record has the number 1
 abbrev pub recorded : List Span → ℕ → Option Span

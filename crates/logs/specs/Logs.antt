@@ -1,18 +1,17 @@
 -- What an opened log means, and what opening answers.
-use Rattle.std.specs.Prelude.{◌≡◌, ℕ, List, None, Result, MatchResult}
+use Rattle.std.specs.Prelude.{◌≡◌, ℕ, List, reverse, None, Result, MatchResult}
 use Rattle.books.specs.declared.fault.Fault.{Fault}
 use Rattle.books.specs.Adjacent.{listing}
 use Rattle.books.specs.Faults.{numbered, placed, told}
 use Rattle.logs.specs.declared.span.Span.{Span}
 use Rattle.logs.specs.declared.stored.Log.{Log}
-use Rattle.logs.specs.History.{newest_first}
 use Rattle.logs.specs.Opening.{Accepted, Chained, Refused}
 
 abbrev pub closures : Log → ℕ
 closures log = (listing log.out).size
 
 abbrev pub history : Log → List Span
-history log = newest_first log.spans log.m
+history log = reverse log.spans.items
 
 -- a log has n closures and a history
 abbrev pub Reads : Log → ℕ → List Span → Type 0

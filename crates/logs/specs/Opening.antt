@@ -10,6 +10,10 @@ use Rattle.logs.specs.Sides.{column, other}
 use Rattle.logs.specs.History.{encode, inside, size, slots_on}
 use Rattle.logs.specs.Words.{word}
 
+-- what numbers of closures and records refuse
+abbrev pub counted : ℕ → ℕ → Option Fault
+counted n m = cond (n == 0 || nat_lt 1024 n) (Some ClosureCount) (cond (nat_lt 4096 m) (Some RecordCount) None)
+
 -- what the first two words and the length refuse
 abbrev pub headed : List ℕ → Option Fault
 headed bytes =

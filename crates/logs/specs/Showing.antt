@@ -1,42 +1,18 @@
 -- The slots of a history, and the lists that hold them.
-use Rattle.std.specs.Prelude.{◌≡◌, ℕ, zero, suc, ◌+◌, ◌<◌, ◌≤◌, Bool, true, false, cond, ◌||◌, T, ◌⊎◌, List, [], ◌∷◌, map, reverse, length, take, Some, None, Option, ◌==◌, nat_eq, slice_index_or, refl}
+use Rattle.std.specs.Prelude.{◌≡◌, ℕ, zero, suc, ◌<◌, ◌≤◌, Bool, true, false, cond, ◌||◌, T, ◌⊎◌, List, [], ◌∷◌, map, reverse, length, Some, None, ◌==◌, nat_eq, slice_get, ◌++◌, refl}
 use Rattle.std.proofs.Common.{sym, ap, subst, ◌∙◌, inl, inr, ⊎_elim, arith}
-use Rattle.std.proofs.lemmas.List.{length-map, length-reverse, length-take, length-take-le, reverse-append, take_more}
-use Rattle.std.proofs.lemmas.Bool.{and_from, and_parts, cases_eq, cases_lt, cond_both, cond-false, cond-true, eq-eqb, eqb-true, ne_eqb}
+use Rattle.std.proofs.lemmas.List.{length-map, length-reverse, reverse-append}
+use Rattle.std.proofs.lemmas.Bool.{cases_eq, cases_lt, cond_both, cond-false, cond-true, eq-eqb, eqb-true, ne_eqb}
 use Rattle.books.specs.declared.stored.Adjacency.{Adjacency}
-use Rattle.books.specs.Adjacent.{listing}
+use Rattle.books.proofs.Laying.{laid_past}
+use Rattle.books.specs.Adjacent.{Laid, listing}
 use Rattle.books.specs.Listing.{Sound, holds}
 use Rattle.logs.specs.declared.side.Side.{Side}
 use Rattle.logs.specs.declared.side.Side.TheVariants.{Leaving, Arriving}
 use Rattle.logs.specs.declared.span.Span.{Span}
 use Rattle.logs.specs.Sides.{far, near, other}
-use Rattle.logs.specs.History.{arriving, chosen, inside, leaving, newest_first, recorded, same}
-use Rattle.logs.specs.Laying.{Laid}
+use Rattle.logs.specs.History.{arriving, chosen, inside, leaving, recorded, slots_on}
 use Rattle.logs.specs.Drafting.{inside_parts, near_inside}
-
--- ---- the test of equality
-
-same_refl : (xs : List (Option ℕ)) → same xs xs ≡ true
-same_refl [] = refl
-same_refl (Some a ∷ xs) = and_from _ _ (eq-eqb a a refl) (same_refl xs)
-same_refl (None ∷ xs) = same_refl xs
-
-pub same_from : (xs ys : List (Option ℕ)) → xs ≡ ys → same xs ys ≡ true
-same_from xs ys e = subst (λ y. same xs y ≡ true) e (same_refl xs)
-
-untrue : false ≡ true → ⊥
-untrue e = let z : ◌≡◌ {A = ℕ} 0 1 = cc in omega arith
-
-pub same_tells : (xs ys : List (Option ℕ)) → same xs ys ≡ true → xs ≡ ys
-same_tells [] [] e = refl
-same_tells [] (y ∷ ys) e = absurd (untrue e)
-same_tells (x ∷ xs) [] e = absurd (untrue e)
-same_tells (Some a ∷ xs) (Some b ∷ ys) e =
-    let p = and_parts _ _ e in
-    ap (λ z. Some z ∷ xs) (eqb-true a b p.0) ∙ ap (λ z. Some b ∷ z) (same_tells xs ys p.1)
-same_tells (Some a ∷ xs) (None ∷ ys) e = absurd (untrue e)
-same_tells (None ∷ xs) (Some b ∷ ys) e = absurd (untrue e)
-same_tells (None ∷ xs) (None ∷ ys) e = ap (λ z. None ∷ z) (same_tells xs ys e)
 
 -- ---- what every history keeps
 
@@ -96,48 +72,42 @@ agree (x ∷ h) u v =
     both (x.to == v) (x.from == u) x.from x.to u v (chosen Arriving v h) (chosen Leaving u h) refl refl (agree h u v)
 
 -- lists that are laid out have the slots of the history
-pub laid_slots : (s : Side) (h : List Span) (n : ℕ) (a : Adjacency) → Laid s h n n a → inside n h ≡ true → (u : ℕ) → (listing a).slots u ≡ map Some (chosen s u h)
+pub laid_slots : (s : Side) (h : List Span) (n : ℕ) (a : Adjacency) → Laid (slots_on s h) n a → inside n h ≡ true → (u : ℕ) → (listing a).slots u ≡ slots_on s h u
 laid_slots s h n a d t u =
     ⊎_elim
-    (λ (i : u < n). d.done u i)
-    (λ (i : n ≤ u). d.bare u i ∙ ap (map Some) (sym (chosen_outside n s u h t i)))
+    (λ (i : u < n). d.slots u i)
+    (λ (i : n ≤ u). laid_past (slots_on s h) n u a d i ∙ ap (map Some) (sym (chosen_outside n s u h t i)))
     (cases_lt u n)
 
--- ---- the records of an array
+-- ---- the records
 
-pub length_newest : (xs : List Span) (m : ℕ) → m ≤ length xs → length (newest_first xs m) ≡ m
-length_newest xs m l = length-reverse (take m xs) ∙ length-take-le m xs l
+pub recorded_none : (h : List Span) → recorded h 0 ≡ None
+recorded_none [] = refl
+recorded_none (x ∷ h) = cond-false _ _ _ (ne_eqb 0 (suc (length h)) (λ e. omega arith)) ∙ recorded_none h
 
-pub history_few : (xs : List Span) (m : ℕ) → length (newest_first xs m) ≤ m
-history_few xs m =
-    let a = length-reverse (take m xs) in
-    let b = length-take m xs in
-    omega arith
+get_last : (xs : List Span) (x : Span) → slice_get (xs ++ x ∷ []) (length xs) ≡ Some x
+get_last [] x = refl
+get_last (y ∷ xs) x = get_last xs x
 
-pub newest_more : (xs : List Span) (m : ℕ) (d : Span) → m < length xs → newest_first xs (suc m) ≡ slice_index_or xs m d ∷ newest_first xs m
-newest_more xs m d l =
-    let e : suc m ≡ m + 1 = omega arith in
-    ap (newest_first xs) e ∙ ap reverse (take_more xs m d l) ∙ reverse-append (take m xs) (slice_index_or xs m d ∷ [])
+get_before : (xs : List Span) (x : Span) (j : ℕ) → (j ≡ length xs → ⊥) → slice_get (xs ++ x ∷ []) j ≡ slice_get xs j
+get_before [] x zero e = absurd (e refl)
+get_before [] x (suc j) e = refl
+get_before (y ∷ xs) x zero e = refl
+get_before (y ∷ xs) x (suc j) e = get_before xs x j (λ i. e (ap suc i))
 
-recorded_step : (xs : List Span) (m k : ℕ) (d : Span) → m < length xs → recorded (newest_first xs (suc m)) k ≡ cond (k == suc m) (Some (slice_index_or xs m d)) (recorded (newest_first xs m) k)
-recorded_step xs m k d l =
-    ap (λ h. recorded h k) (newest_more xs m d l)
-    ∙ ap (λ x. cond (k == suc x) (Some (slice_index_or xs m d)) (recorded (newest_first xs m) k)) (length_newest xs m (omega arith))
-
-pub recorded_none : (xs : List Span) (m k : ℕ) → m ≤ length xs → (k ≡ 0) ⊎ (m < k) → recorded (newest_first xs m) k ≡ None
-recorded_none xs zero k l o = refl
-recorded_none xs (suc m) k l o =
-    let d : Span = record { from = 0; to = 0 } in
-    let no : k ≡ suc m → ⊥ = λ e. ⊎_elim (λ (z : k ≡ 0). omega arith) (λ (z : suc m < k). omega arith) o in
-    let o' : (k ≡ 0) ⊎ (m < k) = ⊎_elim (λ (z : k ≡ 0). inl z) (λ (z : suc m < k). inr (omega arith)) o in
-    recorded_step xs m k d l ∙ cond-false _ _ _ (ne_eqb k (suc m) no) ∙ recorded_none xs m k (omega arith) o'
-
-pub recorded_some : (xs : List Span) (m j k : ℕ) (d : Span) → m ≤ length xs → j < m → k ≡ suc j → recorded (newest_first xs m) k ≡ Some (slice_index_or xs j d)
-recorded_some xs zero j k d l i e = absurd (omega arith)
-recorded_some xs (suc m) j k d l i e =
-    ⊎_elim
-    (λ (q : j ≡ m).
-    recorded_step xs m k d l ∙ cond-true _ _ _ (eq-eqb k (suc m) (omega arith)) ∙ ap (λ x. Some (slice_index_or xs x d)) (sym q))
-    (λ (q : j ≡ m → ⊥).
-    recorded_step xs m k d l ∙ cond-false _ _ _ (ne_eqb k (suc m) (λ z. omega arith)) ∙ recorded_some xs m j k d (omega arith) (omega arith) e)
-    (cases_eq j m)
+-- the record of a number is the element that stands there in the history from its oldest span
+pub recorded_some : (h : List Span) (j : ℕ) → recorded h (suc j) ≡ slice_get (reverse h) j
+recorded_some [] j = refl
+recorded_some (x ∷ h) j =
+    let l = length-reverse h in
+    rw (reverse-append (x ∷ []) h)
+    (⊎_elim
+    (λ (e : j ≡ length h).
+    cond-true _ _ _ (eq-eqb (suc j) (suc (length h)) (ap suc e))
+    ∙ sym (get_last (reverse h) x)
+    ∙ ap (slice_get (reverse h ++ x ∷ [])) (l ∙ sym e))
+    (λ (e : j ≡ length h → ⊥).
+    cond-false _ _ _ (ne_eqb (suc j) (suc (length h)) (λ i. omega arith))
+    ∙ recorded_some h j
+    ∙ sym (get_before (reverse h) x j (λ i. omega arith)))
+    (cases_eq j (length h)))

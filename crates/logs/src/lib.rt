@@ -2,6 +2,7 @@
 #![tactic(auto)]
 
 pub mod draft;
+mod header;
 mod index;
 pub mod log;
 mod opening;

@@ -4,11 +4,11 @@ ghost use Rattle.logs.specs.History.{recorded};
 ghost use Rattle.logs.specs.Logs.{Follows, Opens, Verdict, closures, history};
 ghost use Rattle.logs.specs.Opening.{Decided};
 
-use super::index::{lay_out, no_spans, read_spans};
-use super::opening::judge;
+use super::opening::Tested;
 use super::side::Side;
 use super::span::Span;
 pub use super::stored::Log;
+use arrayvec::ArrayVec;
 use books::adjacency::Adjacency;
 use books::fault::Fault;
 
@@ -19,8 +19,7 @@ impl Log {
         ensures history { history result ≡ [] }
     {
         Log {
-            m: 0,
-            spans: no_spans(),
+            spans: ArrayVec::new(),
             out: Adjacency::new(),
             into: Adjacency::new(),
         }
@@ -33,15 +32,12 @@ impl Log {
         ensures chains { Follows bytes.now result self.new }
         ensures decided { Decided bytes.now }
     {
-        let header = judge(bytes)?;
-        let spans = read_spans(bytes, header);
-        let out = lay_out(bytes, header, Side::Leaving);
-        let into = lay_out(bytes, header, Side::Arriving);
+        let tested = Tested::judge(bytes)?;
+        let spans = tested.read_spans();
         *self = Log {
-            m: header.m,
             spans,
-            out,
-            into,
+            out: Adjacency::of(&tested.on(Side::Leaving)),
+            into: Adjacency::of(&tested.on(Side::Arriving)),
         };
         Ok(())
     }
@@ -50,16 +46,14 @@ impl Log {
     pub fn m(&self) -> u16
         ensures { result ≡ length (history self.now) }
     {
-        self.m
+        self.spans.len() as u16
     }
 
     // The span of a record; the oldest record has the number 1.
     pub fn record(&self, number: u16) -> Option<Span>
         ensures { result ≡ recorded (history self.now) number }
     {
-        if number == 0 || number > self.m {
-            return None;
-        }
-        Some(self.spans[number as usize - 1])
+        let at = usize::from(number.checked_sub(1)?);
+        self.spans.get(at).copied()
     }
 }

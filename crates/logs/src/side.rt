@@ -1,6 +1,6 @@
 // The two sides of a span: it leaves a closure, and it arrives at one.
 ghost use Rattle.std.specs.Prelude.{◌≡◌};
-ghost use Rattle.logs.specs.Opening.{end_at, head_at, next_at};
+ghost use Rattle.logs.specs.Opening.{head_at};
 ghost use Rattle.logs.specs.Sides.{column, other};
 
 #[derive(Clone, Copy)]
@@ -33,20 +33,6 @@ impl Side {
     pub(crate) fn head_place(self, u: u16) -> usize
         ensures { result ≡ head_at self u }
     {
-        4 + 4 * u as usize + 2 * self.column()
-    }
-
-    // The place of an end of the record j, counted from 0, in a log of n closures.
-    pub(crate) fn end_place(self, n: u16, j: u16) -> usize
-        ensures { result ≡ end_at n self j }
-    {
-        4 + 4 * n as usize + 8 * j as usize + 2 * self.column()
-    }
-
-    // The place of the link from the record j to the next record of its chain on this side.
-    pub(crate) fn next_place(self, n: u16, j: u16) -> usize
-        ensures { result ≡ next_at n self j }
-    {
-        self.end_place(n, j) + 4
+        4 + 4 * usize::from(u) + 2 * self.column()
     }
 }

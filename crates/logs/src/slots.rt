@@ -2,8 +2,9 @@
 ghost use Rattle.logs.specs.History.{arriving, leaving};
 ghost use Rattle.logs.specs.Logs.{closures, history};
 ghost use Rattle.std.proofs.Common.{arith, rules};
+ghost use Rattle.std.proofs.lemmas.List.{«length-reverse»};
 ghost use Rattle.logs.specs.declared.side.Side.TheVariants.{Leaving, Arriving};
-ghost use Rattle.logs.specs.Showing.{history_few, agree};
+ghost use Rattle.logs.specs.Showing.{agree};
 ghost use Rattle.logs.specs.Showing;
 
 use super::stored::Log;
@@ -22,7 +23,7 @@ impl Outward for Log {
 
     ghost sound = { λ b.
         let f = b.few in
-        let l = history_few b.spans b.m in
+        let l = length-reverse b.spans.items in
         Showing.sound Leaving (closures b) (history b) f.0 f.1 (omega (arith, f.2)) b.within };
 
     fn capacity() -> u16 {
@@ -47,7 +48,7 @@ impl TwoWay for Log {
 
     ghost incoming_sound = { λ b.
         let f = b.few in
-        let l = history_few b.spans b.m in
+        let l = length-reverse b.spans.items in
         Showing.sound Arriving (closures b) (history b) f.0 f.1 (omega (arith, f.2)) b.within };
 
     ghost agrees = { λ b. agree (history b) };

@@ -1,7 +1,7 @@
 // A span (an arc) leads one way from a closure to a closure.
 ghost use Rattle.std.specs.Prelude.{◌≡◌};
 
-#[derive(Clone, Copy, PartialEq, Eq, Debug)]
+#[derive(Clone, Copy, Default, PartialEq, Eq, Debug)]
 pub struct Span {
     pub from: u16,
     pub to: u16,

@@ -27,8 +27,7 @@ pub fn rewrite(log: &Log, buffer: &mut [u8]) -> Result<usize, Fault>
     ensures log { LogOf (encode (closures log.now) (history log.now)) log.now }
     ensures round { (bytes : List ℕ) → LogOf bytes log.now → Rewritten bytes log.now buffer.old result buffer.new }
 {
-    let m = log.m as usize;
-    write_log(log.out.n(), &log.spans[0..m], buffer)
+    write_log(log.out.n(), log.spans.as_slice(), buffer)
 }
 
 // Writes a log and opens it, and gives its length.

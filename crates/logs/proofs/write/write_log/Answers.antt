@@ -1,18 +1,8 @@
-use Rattle.std.proofs.Common.{◌≡◌, ◌<◌, ◌≤◌, length, None, sym, refl, ap, ◌∙◌, arith}
+use Rattle.std.proofs.Common.{◌≡◌, ◌<◌, ◌≤◌, length, None, sym, refl, ap, arith}
 use Rattle.std.proofs.lemmas.Result.{err_from_is_err_and}
 use Rattle.logs.specs.Drafts.{fitting}
-use Rattle.logs.specs.Drafting.{not_none}
-use Rattle.logs.proofs.Written.{onward_more, onward_none, refused_answer, refused_left, unfit_answer, unfit_left, written_answer, written_log}
+use Rattle.logs.proofs.Written.{onward_more, refused_answer, refused_left, unfit_answer, unfit_left, written_answer, written_log}
 use Rattle.logs.proofs.write.write_log.Goals as goal
-
-along : {A : Type 0} (a b c d : A) → b ≡ a → c ≡ b → d ≡ c → a ≡ d
-along a b c d e f g = sym (g ∙ f ∙ e)
-
-pub loop-span-init : goal.loop-span-init
-loop-span-init c =
-    let ok : fitting c.args.n (length c.args.buffer.now) ≡ None = sym c.in_ok-fits.ensures in
-    let start = c.start-draft.ensures.starts ok in
-    (refl, start.0, λ before d. onward_none before c.args.n c.start-draft.result.n c.start-draft.result.m c.args.spans.now c.start-draft.result.buffer.now start.0 d)
 
 pub loop-span-preserved : goal.loop-span-preserved
 loop-span-preserved c =
@@ -23,7 +13,7 @@ loop-span-preserved c =
       cc (add.named, inv.0),
       cc (add.size, inv.1),
       λ before d.
-          onward_more before c.args.n old.n new.n c.args.spans.now c.loop-span.span-index old.m new.m old.buffer.now new.buffer.now _
+          onward_more before c.args.n old.header.n new.header.n c.args.spans.now c.loop-span.span-index old.header.m new.header.m old.buffer.now new.buffer.now _
           inv.1 add.size (inv.2 before d) (omega arith) add.answer (λ h x. add.grows refl before h x),
     )
 
@@ -47,13 +37,12 @@ returns-in_err-add c =
     let i : c.loop-span.span-index < length c.args.spans.now = omega arith in
     let ok : None ≡ fitting c.args.n (length c.args.buffer.now) = c.in_ok-fits.ensures in
     let w = inv.2 before (c.start-draft.ensures.starts (sym ok)).1 in
-    let named = along _ c.start-draft.result.buffer.ghost_name old.buffer.ghost_name c.add.new.self.buffer.ghost_name c.start-draft.ensures.named inv.0 add.named in
-    let kept = ap (λ x. x.buffer.now) (add.kept (not_none _)) in
-    let left = refused_left before c.args.n old.n c.args.spans.now c.loop-span.span-index old.m old.buffer.now _ _ inv.1 ok w i add.answer in
+    let kept = ap (λ x. x.buffer.now) (add.kept (λ none. cc)) in
+    let left = refused_left before c.args.n old.header.n c.args.spans.now c.loop-span.span-index old.header.m old.buffer.now _ _ inv.1 ok w i add.answer in
     rw (p.1, p.2)
     (record {
       answer =
-          refused_answer before c.args.n old.n c.args.spans.now c.loop-span.span-index old.m old.buffer.now _ _ inv.1 ok w i add.answer;
+          refused_answer before c.args.n old.header.n c.args.spans.now c.loop-span.span-index old.header.m old.buffer.now _ _ inv.1 ok w i add.answer;
       bytes = grind arith;
     })
 
@@ -65,10 +54,9 @@ returns c =
     let i : length c.args.spans.now ≤ c.loop-span.span-index = omega arith in
     let ok : None ≡ fitting c.args.n (length c.args.buffer.now) = c.in_ok-fits.ensures in
     let w = inv.2 before (c.start-draft.ensures.starts (sym ok)).1 in
-    let named = sym (inv.0 ∙ c.start-draft.ensures.named) in
     record {
-      answer = written_answer before c.args.n c.args.spans.now c.loop-span.span-index old.m old.buffer.now ok w i;
+      answer = written_answer before c.args.n c.args.spans.now c.loop-span.span-index old.header.m old.buffer.now ok w i;
       bytes =
-          written_log before c.args.n old.n c.args.spans.now c.loop-span.span-index old.m c.seal.result old.buffer.now _ inv.1 w i
+          written_log before c.args.n old.header.n c.args.spans.now c.loop-span.span-index old.header.m c.seal.result old.buffer.now _ inv.1 w i
           (λ h d. let s = c.seal.ensures.seals before h d in let b = s.bytes in record { gives = s.gives; extent = s.extent; log = s.log; bytes = grind arith });
     }

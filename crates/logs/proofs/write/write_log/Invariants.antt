@@ -7,5 +7,5 @@ use Rattle.logs.proofs.write.write_log.Given as goal
 abbrev pub invariant-loop-span : goal.invariant-loop-span
 invariant-loop-span l =
     (l.draft.buffer.ghost_name ≡ l.initial.draft.buffer.ghost_name)
-    × (l.draft.n ≡ l.n)
-    × ((before : List ℕ) → DraftOf before [] l.initial.draft → Onward before l.n l.spans l.span-index l.draft.m l.draft.buffer.now)
+    × (l.draft.header.n ≡ l.n)
+    × ((before : List ℕ) → DraftOf before [] l.initial.draft → Onward before l.n l.spans l.span-index l.draft.header.m l.draft.buffer.now)

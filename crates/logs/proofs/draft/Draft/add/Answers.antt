@@ -5,8 +5,8 @@ use Rattle.logs.proofs.draft.Draft.add.Goals as goal
 pub returns : goal.returns
 returns c =
     let buffer = c.args.self.now.buffer.now in
-    let n = c.args.self.now.n in
-    let m = c.args.self.now.m in
+    let n = c.args.self.now.header.n in
+    let m = c.args.self.now.header.m in
     let two = c.put_word-2.new.bytes in
     let e =
     writes buffer c.write_record.new.part c.put_word.new.bytes two n m c.word-out.result c.word-into.result _ c.log_size-end.result c.head_place-leaving.result c.head_place-arriving.result c.args.span (omega arith) c.log_size-end.ensures c.head_place-leaving.ensures c.head_place-arriving.ensures

@@ -1,6 +1,6 @@
 use Rattle.std.proofs.Common.{◌≡◌, suc, ◌+◌, length, ap, arith}
 use Rattle.logs.specs.Opening.{none, more}
-use Rattle.logs.proofs.opening.chains.Goals as goal
+use Rattle.logs.proofs.opening.Bounded.chains.Goals as goal
 
 pub loop-u-init : goal.loop-u-init
 loop-u-init c = (omega arith, none)
