@@ -1,8 +1,9 @@
 -- How a visit begins, how it passes from one closure to the next, and what it has when it ends.
-use Rattle.std.proofs.Common.{◌≡◌, ℕ, suc, ◌+◌, ◌-◌, ◌<◌, ◌≤◌, T, map, length, replicate, Ok, Result, sym, ap, ◌∙◌, subst, ⊎_elim, arith, length-set, get_or-set_other, get_or-set_same, below_more}
+use Rattle.std.proofs.Common.{◌≡◌, ℕ, suc, ◌+◌, ◌-◌, ◌<◌, ◌≤◌, T, List, map, length, replicate, slice_get, Some, None, Ok, Result, sym, ap, ◌∙◌, subst, ⊎_elim, arith, length-set, get_or-set_other, get_or-set_same, below_more}
 use lib.ListN.{length-replicate}
 use Rattle.std.proofs.lemmas.List.{get_or-replicate}
-use Rattle.std.proofs.lemmas.Bool.{cases_eq, cond-true, lt-ltb}
+use Rattle.std.proofs.lemmas.Option.{get_or_from_slice_get, slice_get-get_or, slice_get_within}
+use Rattle.std.proofs.lemmas.Bool.{cases_eq, cases_lt, cond-true, lt-ltb}
 use Rattle.books.specs.declared.fault.Fault.{Fault}
 use Rattle.visits.specs.declared.visit.Visit.{Visit}
 use Rattle.std.proofs.lemmas.List.FromFn.{fill_by_all}
@@ -13,7 +14,7 @@ use Rattle.books.specs.Listing.{Listing, plan, holds}
 use Rattle.visits.specs.declared.search.Search.{Search}
 use Rattle.books.specs.Measures.{distance, out_depth}
 use Rattle.visits.specs.Visited.{visited, written}
-use Rattle.visits.specs.Going.{Going, opened, far, place}
+use Rattle.visits.specs.Going.{Going, Taken, opened, far, finished, found, place, stepped}
 use Rattle.books.proofs.Counts.{others_set, others_none}
 use Rattle.visits.proofs.Looking.{Looking}
 use Rattle.visits.proofs.Steps.{all_found}
@@ -22,12 +23,12 @@ use Rattle.books.proofs.Depths.{depth_only}
 use Rattle.books.proofs.Distances.{chain_inside, distance_some, distance_none}
 
 -- all slots of u have been read
-pub looked_all : (l : Listing) (head u d z : ℕ) (s : Search) → Looking (plan l) (l.slots u) (length (l.slots u)) head u d z s → Going (plan l) (head + 1) s
-looked_all l head u d z s o =
+pub looked_all : (l : Listing) {k head u d z : ℕ} {s : Search} → length (l.slots u) ≤ k → Looking (plan l) (l.slots u) k head u d z s → Going (plan l) s.head s
+looked_all l {head = head} {u = u} {s = s} all o =
     let g = o.going in
-    record {
+    subst (λ n. Going (plan l) n s) (sym o.taken)
+    (record {
       long = g.long;
-      room = g.room;
       few = g.few;
       begun = g.begun;
       behind = omega (arith, o.early);
@@ -41,8 +42,38 @@ looked_all l head u d z s o =
       chains = g.chains;
       looked =
           λ i v h. below_more (λ i. T (holds (l.slots (place s i)) v) → far s v ≤ suc (far s (place s i))) head (λ i h. g.looked i v h)
-          (λ t. let r = holds_slot (l.slots u) v (subst (λ w. T (holds (l.slots w) v)) o.here t) in omega (arith, o.seen r.0 v r.1 r.2, o.next, ap (far s) o.here)) i h;
-    }
+          (λ t. let r = holds_slot (l.slots u) v (subst (λ w. T (holds (l.slots w) v)) o.here t) in omega (arith, o.seen r.0 v (omega (arith, r.1)) r.2, o.next, ap (far s) o.here)) i h;
+    })
+
+-- no closure is left in the queue
+pub none_left : (xs : List ℕ) (i : ℕ) → None ≡ slice_get xs i → length xs ≤ i
+none_left xs i e = ⊎_elim (λ h. let x = slice_get-get_or xs i 0 h in cc) (λ h. h) (cases_lt i (length xs))
+
+-- the next closure is taken from the queue
+pub taken_next : {p : Plan} {u : ℕ} {s r : Search} → Going p s.head s → Some u ≡ slice_get s.queue.items s.head → r ≡ stepped s → Taken p u r
+taken_next {p} {u} {s} g e is =
+    subst (λ r. Taken p u r) (sym is)
+    (let back : s.head ≡ s.head + 1 - 1 = omega arith in
+    record {
+      some = omega arith;
+      going = subst (λ n. Going p n (stepped s)) back (record {
+        long = g.long;
+        few = g.few;
+        begun = g.begun;
+        behind = g.behind;
+        tally = g.tally;
+        outside = g.outside;
+        queued = g.queued;
+        soon = g.soon;
+        order = g.order;
+        near = g.near;
+        listed = g.listed;
+        chains = g.chains;
+        looked = g.looked;
+      });
+      early = omega (arith, slice_get_within s.queue.items s.head u (sym e));
+      here = subst (λ n. place s n ≡ u) back (get_or_from_slice_get s.queue.items s.head u 0 (sym e));
+    })
 
 module _ (p : Plan) (start : ℕ) (in' : start < p.size) (few : p.size ≤ 1024) where
   wide : start < length {A = ℕ} (replicate 1024 65535)
@@ -64,7 +95,6 @@ module _ (p : Plan) (start : ℕ) (in' : start < p.size) (few : p.size ≤ 1024)
   going_first =
       record {
         long = length-set (replicate 1024 65535) start 0 ∙ length-replicate {A = ℕ} 1024 65535;
-        room = length-set (replicate 1024 0) 0 start ∙ length-replicate {A = ℕ} 1024 0;
         few = few;
         begun = omega arith;
         behind = omega arith;
@@ -80,7 +110,7 @@ module _ (p : Plan) (start : ℕ) (in' : start < p.size) (few : p.size ≤ 1024)
       }
 
 -- the whole queue has been looked from
-module _ (p : Plan) (head : ℕ) (s : Search) (g : Going p head s) (done : s.tail ≤ head) (closed : Closed p) (some : 0 < p.size) where
+module _ (p : Plan) (head : ℕ) (s : Search) (g : Going p head s) (done : found s ≤ head) (closed : Closed p) (some : 0 < p.size) where
   close : (u : ℕ) → u < 1024 → (far s u ≡ 65535 → ⊥) → far s u < p.size
   close u l n =
       let r = g.listed u l n in
@@ -121,28 +151,28 @@ module _ (p : Plan) (head : ℕ) (s : Search) (g : Going p head s) (done : s.tai
   distances_right = fill_by_all (λ v. written (distance p (place s 0) v)) s.distances 1024 0 g.long entry_right
 
   -- the closure found last is the farthest
-  last_known : far s (place s (s.tail - 1)) ≡ 65535 → ⊥
-  last_known e = omega (arith, g.soon (s.tail - 1) (omega (arith, g.begun)), g.begun, all_found g, g.few)
+  last_known : far s (place s (found s - 1)) ≡ 65535 → ⊥
+  last_known e = omega (arith, g.soon (found s - 1) (omega (arith, g.begun)), g.begun, all_found g, g.few)
 
-  last_farthest : OutDepth p (place s 0) (far s (place s (s.tail - 1)))
+  last_farthest : OutDepth p (place s 0) (far s (place s (found s - 1)))
   last_farthest =
-      let b : s.tail - 1 < s.tail = omega (arith, g.begun) in
+      let b : found s - 1 < found s = omega (arith, g.begun) in
       record {
-        holds = (place s (s.tail - 1), near_right (place s (s.tail - 1)) (omega (arith, g.queued (s.tail - 1) b, g.few)) last_known);
+        holds = (place s (found s - 1), near_right (place s (found s - 1)) (omega (arith, g.queued (found s - 1) b, g.few)) last_known);
         greatest = λ k d.
             let v = d.0 in
             let i = chain_inside closed (g.queued 0 g.begun) d.1.holds in
             let o = from_origin d.1.holds in
             let q = g.listed v (omega (arith, g.few)) o.1 in
             let f = d.1.least (far s v) (g.chains v (omega (arith, g.few)) o.1) in
-            omega (arith, f, ap (far s) q.2, g.order q.0 (s.tail - 1) (omega (arith, q.1)) b);
+            omega (arith, f, ap (far s) q.2, g.order q.0 (found s - 1) (omega (arith, q.1)) b);
       }
 
-  pub depth_right : far s (place s (s.tail - 1)) ≡ out_depth p (place s 0)
-  depth_right = depth_only p closed some (place s 0) (far s (place s (s.tail - 1))) (g.queued 0 g.begun) last_farthest
+  pub depth_right : far s (place s (found s - 1)) ≡ out_depth p (place s 0)
+  depth_right = depth_only p closed some (place s 0) (far s (place s (found s - 1))) (g.queued 0 g.begun) last_farthest
 
   -- so the search answers as the visit of its start
-  pub visit_right : (start : ℕ) → place s 0 ≡ start → ◌≡◌ {A = Result Visit Fault} (Ok (record { distances = s.distances; depth = far s (place s (s.tail - 1)) })) (visited p start)
+  pub visit_right : (start : ℕ) → place s 0 ≡ start → ◌≡◌ {A = Result Visit Fault} (Ok (finished s)) (visited p start)
   visit_right start e =
       let in' : start < p.size = omega (arith, g.queued 0 g.begun, e) in
       ap {B = Result Visit Fault} (λ (x : Visit). Ok x) (λ i. record { distances = (distances_right ∙ ap (λ u. map (λ v. written (distance p u v)) (range_with_len 0 1024)) e) i; depth = (depth_right ∙ ap (out_depth p) e) i })

@@ -1,6 +1,5 @@
 -- What a visit tells, in the words of chains.
-use Rattle.std.proofs.Common.{◌≡◌, ℕ, ◌<◌, cond, T, eqb, ltb, List, map, get_or, IfOk, Some, None, Ok, Err, Option, Result, sym, ap, ◌∙◌, subst, ⊎_elim, arith, eqb→eq}
-use lib.Dec.{eqb_refl}
+use Rattle.std.proofs.Common.{◌≡◌, ℕ, ◌<◌, ◌≤◌, cond, Bool, true, false, T, ltb, List, map, get_or, IfOk, Some, None, Ok, Err, Option, MatchOption, Result, sym, ap, ◌∙◌, subst, ⊎_elim, arith}
 use Rattle.std.proofs.lemmas.List.FromFn.{get_or-map-range_with_len}
 use Rattle.std.proofs.lemmas.Bool.{cases_lt, cond_both, ltb-true}
 use Rattle.std.specs.List.{range_with_len}
@@ -78,12 +77,8 @@ in_visit_right l into start r sound agrees e =
     let back : r ≡ visited (turned (plan l)) start = e ∙ ap (λ (p : Plan). visited p start) (turned_plan l into agrees) in
     (back ∙ turned_visit (plan l) closed start, back, (λ m h. back ∙ sym (same_visit (plan m) (turned (plan l)) start h)), in_tells (plan l) closed start sound.some r back)
 
--- ---- the lowest number at the depth
-
-pub farthest_at : (xs : List ℕ) (d v : ℕ) → v < 1024 → get_or xs v 0 ≡ d → ((k : ℕ) → k < v → get_or xs k 0 ≡ d → ⊥) → first 1024 (λ v. eqb (get_or xs v 0) d) ≡ Some v
-farthest_at xs d v h e none =
-    first_is 1024 (λ v. eqb (get_or xs v 0) d) v h (subst (λ x. T (eqb x d)) (sym e) (eqb_refl d))
-    (λ k t. ⊎_elim (λ l. absurd (none k l (eqb→eq (get_or xs k 0) d t))) (λ m. m) (cases_lt k v))
-
-pub farthest_none : (xs : List ℕ) (d : ℕ) → ((k : ℕ) → k < 1024 → get_or xs k 0 ≡ d → ⊥) → first 1024 (λ v. eqb (get_or xs v 0) d) ≡ None
-farthest_none xs d none = first_none 1024 (λ v. eqb (get_or xs v 0) d) (λ k h t. none k h (eqb→eq (get_or xs k 0) d t))
+-- what a search through the numbers below n finds is the least of which the test holds
+pub lowest : (n : ℕ) (t : ℕ → Bool) (r : Option ℕ) → MatchOption r ((k : ℕ) → 0 ≤ k → k < n → t k ≡ false) (λ i. (0 ≤ i) × (i < n) × (t i ≡ true) × ((k : ℕ) → 0 ≤ k → k < i → t k ≡ false)) → r ≡ first n t
+lowest n t (Some i) m =
+    sym (first_is n t i m.1 (subst T (sym m.2) tt) (λ k s. ⊎_elim (λ l. absurd (subst T (m.3 k (omega arith) l) s)) (λ l. l) (cases_lt k i)))
+lowest n t None m = sym (first_none n t (λ k h s. subst T (m k (omega arith) h) s))

@@ -1,8 +1,16 @@
 -- The measures of a whole plan, in the words of chains.
-use Rattle.std.specs.Prelude.{◌≡◌, ℕ, ◌<◌, ◌≤◌, length, slice_index}
+use Rattle.std.specs.Prelude.{◌≡◌, ℕ, ◌<◌, ◌≤◌, length, slice_index_or}
 use Rattle.books.specs.Plan.{Plan, Distance, Diameter, InDepth, OutDepth}
+use Rattle.visits.specs.declared.figures.Depths.{Depths}
 use Rattle.visits.specs.declared.figures.Figures.{Figures}
 use Rattle.visits.specs.declared.figures.LongestRun.{LongestRun}
+
+-- the depths of a closure that is not measured, and those noted of closure u
+abbrev pub unmeasured : Depths
+unmeasured = record { out = 0; into = 0 }
+
+abbrev pub depths_of : Figures → ℕ → Depths
+depths_of f u = slice_index_or f.depths u unmeasured
 
 -- a longest run: its length is the diameter, its first closure is the lowest from which a run is so long, and its last the lowest to which one is from there
 pub record Longest (p : Plan) (r : LongestRun) : Type 0 where
@@ -13,17 +21,16 @@ pub record Longest (p : Plan) (r : LongestRun) : Type 0 where
 
 -- all measures; a number that is no closure has 0
 pub record Figured (p : Plan) (f : Figures) : Type 0 where
-  pub out_depth : (u : ℕ) → u < p.size → OutDepth p u (slice_index f.out_depths u)
-  pub in_depth : (u : ℕ) → u < p.size → InDepth p u (slice_index f.in_depths u)
-  pub outside : (u : ℕ) → p.size ≤ u → (slice_index f.out_depths u ≡ 0) × (slice_index f.in_depths u ≡ 0)
+  pub out_depth : (u : ℕ) → u < p.size → OutDepth p u (depths_of f u).out
+  pub in_depth : (u : ℕ) → u < p.size → InDepth p u (depths_of f u).into
+  pub outside : (u : ℕ) → p.size ≤ u → depths_of f u ≡ unmeasured
   pub longest : Longest p f.longest
 
 -- the same of the closures below n alone, while the others are yet to be visited
 pub record Sofar (p : Plan) (n : ℕ) (f : Figures) : Type 0 where
-  pub long : (length f.out_depths ≡ 1024) × (length f.in_depths ≡ 1024)
-  pub out_depth : (u : ℕ) → u < n → OutDepth p u (slice_index f.out_depths u)
-  pub in_depth : (u : ℕ) → u < n → InDepth p u (slice_index f.in_depths u)
-  pub outside : (u : ℕ) → n ≤ u → (slice_index f.out_depths u ≡ 0) × (slice_index f.in_depths u ≡ 0)
+  pub long : length f.depths ≡ 1024
+  pub depths : (u : ℕ) → u < n → OutDepth p u (depths_of f u).out × InDepth p u (depths_of f u).into
+  pub outside : (u : ℕ) → n ≤ u → depths_of f u ≡ unmeasured
   pub inside : f.longest.from < p.size
   pub apart : Distance p f.longest.from f.longest.to f.longest.length
   pub over : (u v d : ℕ) → u < n → Distance p u v d → d ≤ f.longest.length

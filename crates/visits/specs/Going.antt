@@ -1,12 +1,17 @@
 -- What a visit keeps true while it runs.
-use Rattle.std.specs.Prelude.{◌≡◌, ℕ, suc, ◌+◌, ◌<◌, ◌≤◌, cond, T, length, replicate, ◌==◌, ◌≢◌, slice_index, slice_set}
+use Rattle.std.specs.Prelude.{◌≡◌, ℕ, suc, ◌+◌, ◌-◌, ◌<◌, ◌≤◌, cond, T, [], ◌∷◌, ◌++◌, length, replicate, ◌==◌, ◌≢◌, slice_index, slice_set}
 use Rattle.books.specs.Counts.{others}
 use Rattle.books.specs.Plan.{Plan, Chain}
 use Rattle.visits.specs.declared.search.Search.{Search}
+use Rattle.visits.specs.declared.visit.Visit.{Visit}
+
+-- how many closures are found
+abbrev pub found : Search → ℕ
+found s = length s.queue.items
 
 -- the closure at place i of the queue, and its distance
 abbrev pub place : Search → ℕ → ℕ
-place s i = slice_index s.queue i
+place s i = slice_index s.queue.items i
 
 abbrev pub far : Search → ℕ → ℕ
 far s v = slice_index s.distances v
@@ -14,24 +19,38 @@ far s v = slice_index s.distances v
 -- the first `head` closures of the queue have been looked from
 pub record Going (p : Plan) (head : ℕ) (s : Search) : Type 0 where
   pub long : length s.distances ≡ 1024
-  pub room : length s.queue ≡ 1024
   pub few : p.size ≤ 1024
-  pub begun : 0 < s.tail
-  pub behind : head ≤ s.tail
-  pub tally : others 65535 s.distances ≡ s.tail
+  pub begun : 0 < found s
+  pub behind : head ≤ found s
+  pub tally : others 65535 s.distances ≡ found s
   pub outside : (v : ℕ) → p.size ≤ v → v < 1024 → far s v ≡ 65535
-  pub queued : (i : ℕ) → i < s.tail → place s i < p.size
-  pub soon : (i : ℕ) → i < s.tail → far s (place s i) ≤ i
-  pub order : (i j : ℕ) → i ≤ j → j < s.tail → far s (place s i) ≤ far s (place s j)
-  pub near : (i : ℕ) → head < s.tail → i < s.tail → far s (place s i) ≤ suc (far s (place s head))
-  pub listed : (v : ℕ) → v < 1024 → (far s v ≢ 65535) → (i : ℕ) × (i < s.tail) × (place s i ≡ v)
+  pub queued : (i : ℕ) → i < found s → place s i < p.size
+  pub soon : (i : ℕ) → i < found s → far s (place s i) ≤ i
+  pub order : (i j : ℕ) → i ≤ j → j < found s → far s (place s i) ≤ far s (place s j)
+  pub near : (i : ℕ) → head < found s → i < found s → far s (place s i) ≤ suc (far s (place s head))
+  pub listed : (v : ℕ) → v < 1024 → (far s v ≢ 65535) → (i : ℕ) × (i < found s) × (place s i ≡ v)
   pub chains : (v : ℕ) → v < 1024 → (far s v ≢ 65535) → Chain p (place s 0) v (far s v)
   pub looked : (i v : ℕ) → i < head → T (p.leads (place s i) v) → far s v ≤ suc (far s (place s i))
 
+-- u was taken from the queue last, and is yet to be looked from
+pub record Taken (p : Plan) (u : ℕ) (s : Search) : Type 0 where
+  pub some : 0 < s.head
+  pub going : Going p (s.head - 1) s
+  pub early : s.head ≤ found s
+  pub here : place s (s.head - 1) ≡ u
+
 -- the state in which only `start` is found
 abbrev pub opened : ℕ → Search
-opened start = record { distances = slice_set (replicate 1024 65535) start 0; queue = slice_set (replicate 1024 0) 0 start; tail = 1 }
+opened start = record { distances = slice_set (replicate 1024 65535) start 0; queue = record { items = start ∷ [] }; head = 0 }
+
+-- the state after one closure more is taken from the queue
+abbrev pub stepped : Search → Search
+stepped s = record { distances = s.distances; queue = s.queue; head = s.head + 1 }
 
 -- the state after v is noted at distance d
 abbrev pub noted : Search → ℕ → ℕ → Search
-noted s v d = cond (far s v == 65535) (record { distances = slice_set s.distances v d; queue = slice_set s.queue s.tail v; tail = s.tail + 1 }) s
+noted s v d = cond (far s v == 65535) (record { distances = slice_set s.distances v d; queue = record { items = s.queue.items ++ v ∷ [] }; head = s.head }) s
+
+-- what a search that is over found: the closure found last is the farthest
+abbrev pub finished : Search → Visit
+finished s = record { distances = s.distances; depth = far s (place s (found s - 1)) }

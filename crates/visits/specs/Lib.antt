@@ -1,3 +1,4 @@
 pub mod Going
 pub mod Visited
 pub mod Figured
+pub mod Within

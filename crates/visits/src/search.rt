@@ -1,83 +1,103 @@
 // Breadth-first search, once for both directions.
-ghost use Rattle.std.specs.Prelude.{◌≡◌, ◌+◌, ◌<◌};
-ghost use Rattle.books.specs.Listing.{Sound, plan};
-ghost use Rattle.visits.specs.Going.{Going, far, noted, opened, place};
+ghost use Rattle.std.specs.Prelude.{◌≡◌, ℕ, ◌<◌, IfNone, OnSome, slice_get};
+ghost use Rattle.books.specs.Listing.{plan};
+ghost use Rattle.visits.specs.Going.{Going, Taken, far, finished, found, noted, opened, place, stepped};
 ghost use Rattle.visits.specs.Visited.{visited};
 
 use super::spans::Spans;
 use super::visit::{FAR, Visit};
+use arrayvec::ArrayVec;
 use books::fault::Fault;
 
-// A search on its way: the distances so far, and the closures found, in the order in which they were found.
-#[derive(Clone, Copy)]
+// A search on its way: the distances so far, the closures found in the order in which they were found, and how many of them were
+// taken from this queue to be looked from.
+#[derive(Drop)]
 struct Search {
     distances: [u16; 1024],
-    queue: [u16; 1024],
-    tail: usize,
+    queue: ArrayVec<u16, 1024>,
+    head: usize,
 }
 
-// Only `start` is found, at distance 0.
-fn begin(start: u16) -> Search
-    requires { start < 1024 }
-    ensures { result ≡ opened start }
-{
-    let mut distances = [FAR; 1024];
-    distances[start as usize] = 0;
-    let mut queue = [0; 1024];
-    queue[0] = start;
-    Search {
-        distances,
-        queue,
-        tail: 1,
+impl Search {
+    // Only `start` is found, at distance 0.
+    fn at(start: u16) -> Search
+        requires { start < 1024 }
+        ensures { result ≡ opened start }
+    {
+        let mut distances = [FAR; 1024];
+        distances[usize::from(start)] = 0;
+        let mut queue = ArrayVec::new();
+        queue.push(start);
+        Search {
+            distances,
+            queue,
+            head: 0,
+        }
     }
-}
 
-// Notes that `v` lies at distance `d`, unless its distance is known.
-fn note(search: &mut Search, v: u16, d: u16)
-    requires { (v < 1024) × ((far search.old v ≡ 65535 → search.old.tail < 1024)) }
-    ensures { search.new ≡ noted search.old v d }
-{
-    if search.distances[v as usize] == FAR {
-        search.distances[v as usize] = d;
-        search.queue[search.tail] = v;
-        search.tail += 1;
+    // The next closure of the queue, to be looked from.
+    fn next(&mut self) -> Option<u16>
+        ensures value { result ≡ slice_get self.old.queue.items self.old.head }
+        ensures some { OnSome result (self.new ≡ stepped self.old) }
+        ensures none { IfNone result (self.new ≡ self.old) }
+    {
+        let u = *self.queue.get(self.head)?;
+        self.head += 1;
+        Some(u)
     }
-}
 
-// Notes the closures that a span leads to from the one at place `head` of the queue.
-fn look<S: Spans>(spans: &S, head: usize, search: &mut Search)
-    requires sound { Sound 1024 (S.Spans.listing spans.now) }
-    requires early { head < search.old.tail }
-    requires going { Going (plan (S.Spans.listing spans.now)) head search.old }
-    ensures going { Going (plan (S.Spans.listing spans.now)) (head + 1) search.new }
-    ensures start { place search.new 0 ≡ place search.old 0 }
-{
-    let u = search.queue[head];
-    let d = search.distances[u as usize] + 1;
-    for k in 0..spans.slots(u) {
-        if let Some(v) = spans.slot_at(u, k) {
-            note(search, v, d);
+    // Notes that `v` lies at distance `d`, unless its distance is known.
+    fn note(&mut self, v: u16, d: u16)
+        requires closure { v < 1024 }
+        requires room { far self.old v ≡ 65535 → found self.old < 1024 }
+        ensures { self.new ≡ noted self.old v d }
+    {
+        let distance = &mut self.distances[usize::from(v)];
+        if *distance == FAR {
+            *distance = d;
+            self.queue.push(v);
+        }
+    }
+
+    // Notes the closures that a span leads to from `u`, the one taken last.
+    fn look<S: Spans>(&mut self, spans: &S, u: u16)
+        requires { Taken (plan (S.Spans.listing spans.now)) u self.old }
+        ensures going { Going (plan (S.Spans.listing spans.now)) self.new.head self.new }
+        ensures head { self.new.head ≡ self.old.head }
+        ensures start { place self.new 0 ≡ place self.old 0 }
+    {
+        let d = self.distances[usize::from(u)] + 1;
+        for k in 0..spans.slots(u) {
+            if let Some(v) = spans.slot_at(u, k) {
+                self.note(v, d);
+            }
+        }
+    }
+
+    // What the search found. The closure found last is the farthest.
+    fn finish(&self) -> Visit
+        requires some { 0 < found self.now }
+        requires closures { (i : ℕ) → i < found self.now → place self.now i < 1024 }
+        ensures { result ≡ finished self.now }
+    {
+        let last = self.queue[self.queue.len() - 1];
+        Visit {
+            distances: self.distances,
+            depth: self.distances[usize::from(last)],
         }
     }
 }
 
-// The distances from `start` along the spans. The closure found last is the farthest.
+// The distances from `start` along the spans.
 pub(crate) fn visit<S: Spans>(spans: &S, start: u16) -> Result<Visit, Fault>
-    requires { Sound 1024 (S.Spans.listing spans.now) }
     ensures { result ≡ visited (plan (S.Spans.listing spans.now)) start }
 {
     if start >= spans.size() {
         return Err(Fault::NoClosure);
     }
-    let mut search = begin(start);
-    let mut head = 0;
-    while head < search.tail {
-        look(spans, head, &mut search);
-        head += 1;
+    let mut search = Search::at(start);
+    while let Some(u) = search.next() {
+        search.look(spans, u);
     }
-    let last = search.queue[search.tail - 1];
-    Ok(Visit {
-        distances: search.distances,
-        depth: search.distances[last as usize],
-    })
+    Ok(search.finish())
 }

@@ -11,11 +11,12 @@ use books::book::{Outward, TwoWay};
 use books::fault::Fault;
 
 // What stands for the distance of a closure that is out of reach, or of a number that is no closure.
+// The format of a visit fixes it, so distances are no Options.
 pub const FAR: u16 = 65535;
 
 // What a visit (a breadth-first search) finds: the distances by closure, and the depth (the eccentricity), which is the greatest
 // distance of a closure within reach.
-#[derive(Clone, Copy)]
+#[derive(Clone, Copy, PartialEq, Eq, Debug)]
 pub struct Visit {
     pub distances: [u16; 1024],
     pub depth: u16,
@@ -44,11 +45,6 @@ impl Visit {
     pub fn farthest(&self) -> Option<u16>
         ensures { result ≡ first 1024 (λ v. nat_eq (slice_index self.now.distances v) self.now.depth) }
     {
-        for v in 0..1024 {
-            if self.distances[v as usize] == self.depth {
-                return Some(v);
-            }
-        }
-        None
+        (0..1024).find(|v| self.distances[usize::from(*v)] == self.depth)
     }
 }

@@ -1,11 +1,5 @@
-use Rattle.std.proofs.Common.{arith}
 use Rattle.visits.proofs.Told.{in_visit_right}
 use Rattle.visits.proofs.visit.in_visit.Goals as goal
-
-pub visit-requires : goal.visit-requires
-visit-requires g c =
-    let s = g.met.B.TwoWay.incoming_sound c.args.book.now in
-    record { some = s.some; few = omega (arith, s.few, g.met.B.Outward.capped); outside = s.outside; below = s.below; short = s.short }
 
 pub returns : goal.returns
 returns g c =

@@ -1,11 +1,11 @@
-use Rattle.std.proofs.Common.{sym, arith}
-use Rattle.visits.proofs.Told.{farthest_at, farthest_none}
+use Rattle.std.proofs.Common.{◌≡◌, true, false, rules, eqb, get_or}
+use borrow.Author.Tests.{tests}
+use Rattle.std.proofs.lemmas.Iterator.{first_from_Range}
+use Rattle.visits.proofs.Told.{lowest}
 use Rattle.visits.proofs.visit.Visit.farthest.Goals as goal
-
-pub returns-then-self-v : goal.returns-then-self-v
-returns-then-self-v c =
-    sym (farthest_at c.args.self.now.distances c.args.self.now.depth c.loop-v.v (omega arith) c.if-self-v.true c.loop-v.invariant)
 
 pub returns : goal.returns
 returns c =
-    sym (farthest_none c.args.self.now.distances c.args.self.now.depth (λ k h. c.loop-v.invariant k (omega arith)))
+    let x = c.args.self.now in
+    lowest 1024 (λ v. eqb (get_or x.distances v 0) x.depth) c.find.result
+    (first_from_Range _ _ _ _ (λ v. eqb (get_or x.distances v 0) x.depth ≡ true) (λ v. eqb (get_or x.distances v 0) x.depth ≡ false) c.find.ensures.ran (λ v q k. search (rules, tests)) (λ v q k. search (rules, tests)))
