@@ -1,5 +1,5 @@
 // A mark for each number that a closure can have.
-ghost use Rattle.std.specs.Prelude.{◌≡◌, ℕ, false, ◌&&◌, if◌then◌else◌, nat_eq, nat_lt, slice_index_or};
+ghost use Rattle.std.specs.Prelude.{◌≡◌, ℕ, false, slice_index_or, slice_set};
 
 #[derive(Drop)]
 pub struct Marks {
@@ -18,16 +18,15 @@ impl Marks {
     pub(crate) fn has(&self, u: u16) -> bool
         ensures { result ≡ slice_index_or self.now.set u false }
     {
-        u < 1024 && self.set[u as usize]
+        self.set.get(usize::from(u)).copied().unwrap_or(false)
     }
 
     // Sets or clears the mark of a number below 1,024.
     pub(crate) fn put(&mut self, c: u16, mark: bool)
-        ensures puts { (u : ℕ) → slice_index_or self.new.set u false ≡ (if nat_eq u c && nat_lt u 1024 then mark else slice_index_or self.old.set u false) }
-        ensures again { slice_index_or self.old.set c false ≡ mark → self.new ≡ self.old }
+        ensures { self.new.set ≡ slice_set self.old.set c mark }
     {
         if c < 1024 {
-            self.set[c as usize] = mark;
+            self.set[usize::from(c)] = mark;
         }
     }
 }

@@ -65,10 +65,7 @@ impl<B: TwoWay> Shut<B> {
     fn unless_shut(&self, u: u16, held: Option<u16>) -> Option<u16>
         ensures { result ≡ (if shuts self.now u then None else kept (shuts self.now) held) }
     {
-        match held {
-            Some(v) if !self.is_shut(u) && !self.is_shut(v) => Some(v),
-            _ => None,
-        }
+        held.filter(|v| !self.is_shut(u) && !self.is_shut(*v))
     }
 }
 
@@ -104,6 +101,7 @@ impl<B: TwoWay> Outward for Shut<B> {
         self.below.out_slots(u)
     }
 
+    #[tactic(auto, using(crate::specs::Thinned::slot_is))]
     fn out_slot(&self, u: u16, k: u16) -> Option<u16>
         ensures { result ≡ slot (emptied (shuts self.now) (B.Outward.outgoing self.now.below).slots u) k }
     {
@@ -125,6 +123,7 @@ impl<B: TwoWay> TwoWay for Shut<B> {
         self.below.in_slots(v)
     }
 
+    #[tactic(auto, using(crate::specs::Thinned::slot_is))]
     fn in_slot(&self, v: u16, k: u16) -> Option<u16>
         ensures { result ≡ slot (emptied (shuts self.now) (B.TwoWay.incoming self.now.below) v) k }
     {

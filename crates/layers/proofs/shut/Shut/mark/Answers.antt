@@ -9,4 +9,4 @@ pub returns : goal.returns
 returns g c =
     let few = (g.met.B.Outward.sound c.args.self.now.below).few in
     accepts g.B.Outward.outgoing g.B.TwoWay.incoming c.args.c c.args.mark c.args.self.now c.put.new.self
-    (omega arith) (omega (arith, few, g.met.B.Outward.capped)) c.put.ensures.puts c.put.ensures.again
+    (omega arith) (omega (arith, few, g.met.B.Outward.capped)) c.put.ensures

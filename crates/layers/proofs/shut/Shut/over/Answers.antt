@@ -1,13 +1,7 @@
-use Rattle.std.proofs.Common.{refl}
 use Rattle.layers.specs.Layers.{shuts}
 use Rattle.layers.specs.Thinned.{leaves_both}
 use Rattle.layers.proofs.shut.Shut.over.Goals as goal
 
-pub returns : goal.returns
-returns g c =
-    record {
-      below = refl;
-      limit = refl;
-      all_open = c.none-marks.ensures;
-      leaves = leaves_both (shuts (record { below = c.args.below; marks = c.none-marks.result })) (g.B.Outward.outgoing c.args.below) (g.B.TwoWay.incoming c.args.below);
-    }
+pub returns-clause-leaves : goal.returns-clause-leaves
+returns-clause-leaves g c =
+    leaves_both (shuts (record { below = c.args.below; marks = c.none-marks.result })) (g.B.Outward.outgoing c.args.below) (g.B.TwoWay.incoming c.args.below)
