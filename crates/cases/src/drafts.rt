@@ -1,13 +1,11 @@
 // Drafts: refusals, the largest log, and logs written and read again.
+use super::plans::ONE_SPAN;
 use books::book::{Outward, TwoWay};
 use books::fault::Fault;
 use logs::draft::{Draft, fits};
 use logs::log::Log;
 use logs::span::Span;
 use logs::write::{rewrite, write_and_open, write_log};
-
-// The log with 2 closures and the span 0→1.
-const ONE_SPAN: &[u8] = b"\x02\0\x01\0\x01\0\0\0\0\0\x01\0\0\0\x01\0\0\0\0\0";
 
 #[test]
 fn fitting(rt: HostRuntime) {

@@ -1,7 +1,8 @@
 // Rows: a table of spoilt rows, one or two for each rule, and rows that open.
+use super::plans::four_depths;
 use books::book::{Outward, TwoWay};
-use books::fault::Fault;
 use rows::rows::{Listed, Rows};
+use std::array;
 use std::process::Abort;
 use std::test::Fail;
 use visits::figures::measure;
@@ -117,8 +118,7 @@ fn rows_are_read_and_measured(rt: HostRuntime) {
     assert_eq!(rt; rows.out_slots(4), 0);
     assert_eq!(rt; rows.in_slot(3, 0), Some(2));
     let figures = measure(&rows);
-    assert_eq!(rt; &figures.out_depths[0..4], [3, 2, 2, 0].as_slice());
-    assert_eq!(rt; &figures.in_depths[0..4], [2, 2, 2, 3].as_slice());
+    assert_eq!(rt; four_depths(&figures), ([3, 2, 2, 0], [2, 2, 2, 3]));
 }
 
 // The listings agree as sets: a span may be listed more often on one side.
@@ -138,29 +138,14 @@ fn parallel_spans_may_be_listed_once(rt: HostRuntime) {
     assert_eq!(rt; rows.in_slots(0), 1);
 }
 
-// Starts of 1,024 closures with four slots each.
-fn in_fours() -> [u16; 1025] {
-    let mut starts = [0; 1025];
-    for u in 0..1025u16 {
-        starts[u as usize] = 4 * u;
-    }
-    starts
-}
-
-// Ends by which every closure leads to itself, four times.
-fn loops() -> [u16; 4096] {
-    let mut ends = [0; 4096];
-    for k in 0..4096u16 {
-        ends[k as usize] = k / 4;
-    }
-    ends
-}
-
 #[test]
 fn the_largest_rows(rt: HostRuntime) {
+    // every closure leads to itself, four times
+    let starts: [u16; 1025] = array::from_fn(|u| 4 * u as u16);
+    let ends: [u16; 4096] = array::from_fn(|k| k as u16 / 4);
     let loops = Listed {
-        starts: &in_fours(),
-        ends: &loops(),
+        starts: &starts,
+        ends: &ends,
     };
     let mut rows = Rows::new();
     assert_eq!(rt; rows.open(loops, loops), Ok(()));

@@ -1,4 +1,5 @@
 // Opening: a table of damaged logs, the largest sizes, and what an opened log tells.
+use super::plans::ONE_SPAN;
 use books::book::{Outward, TwoWay};
 use logs::log::Log;
 use logs::span::Span;
@@ -19,9 +20,6 @@ const fn damaged(bytes: &'static [u8], number: u8, place: usize) -> Case {
         place,
     }
 }
-
-// The log with 2 closures and the span 0→1.
-const ONE_SPAN: &[u8] = b"\x02\0\x01\0\x01\0\0\0\0\0\x01\0\0\0\x01\0\0\0\0\0";
 
 // One or more damaged logs for each refusal.
 fn table() -> [Case; 24] {

@@ -3,6 +3,10 @@ use logs::log::Log;
 use logs::span::Span;
 use logs::write::write_and_open;
 use std::process::Abort;
+use visits::figures::Figures;
+
+// The log with 2 closures and the span 0→1.
+pub(crate) const ONE_SPAN: &[u8] = b"\x02\0\x01\0\x01\0\0\0\0\0\x01\0\0\0\x01\0\0\0\0\0";
 
 // The plan 0→1→2→0 and 2→3.
 pub(crate) fn ring(rt: &impl Abort) -> Log {
@@ -15,4 +19,13 @@ pub(crate) fn ring(rt: &impl Abort) -> Log {
     ];
     assert_eq!(rt; write_and_open(&mut log, 4, &spans, &mut [0; 64]), Ok(52));
     log
+}
+
+// The depths of the first four closures, out-depths first.
+pub(crate) fn four_depths(figures: &Figures) -> ([u16; 4], [u16; 4]) {
+    let [a, b, c, d, ..] = figures.depths;
+    (
+        [a.out, b.out, c.out, d.out],
+        [a.into, b.into, c.into, d.into],
+    )
 }

@@ -10,18 +10,15 @@ use logs::write::rewrite;
 use std::alloc::Global;
 use std::io;
 use std::io::Write;
-use visits::figures::{Figures, measure};
+use visits::figures::{Depths, Figures, LongestRun, measure};
 
 // A line for each closure, and one for the longest run.
 fn print_figures(out: &mut impl Write, n: u16, figures: &Figures) -> io::Result<()> {
-    let depths = figures.out_depths.iter().zip(figures.in_depths.iter());
-    for (u, (outward, inward)) in depths.enumerate().take(n as usize) {
-        writeln!(out, "closure {u} out {outward} in {inward}")?;
+    for (u, depths) in figures.depths.iter().enumerate().take(usize::from(n)) {
+        let Depths { out: outward, into } = *depths;
+        writeln!(out, "closure {u} out {outward} in {into}")?;
     }
-    let longest = figures.longest;
-    let length = longest.length;
-    let from = longest.from;
-    let to = longest.to;
+    let LongestRun { length, from, to } = figures.longest;
     writeln!(out, "diameter {length} from {from} to {to}")
 }
 
@@ -47,10 +44,8 @@ fn shut_all(log: Log, closures: &[u16]) -> Result<Shut<Log>, Fault> {
 // One line, with the closures that are shut.
 fn print_shut(out: &mut impl Write, plan: &Shut<Log>) -> io::Result<()> {
     write!(out, "shut")?;
-    for c in 0..plan.n() {
-        if plan.is_shut(c) {
-            write!(out, " {c}")?;
-        }
+    for c in (0..plan.n()).filter(|c| plan.is_shut(*c)) {
+        write!(out, " {c}")?;
     }
     writeln!(out)
 }

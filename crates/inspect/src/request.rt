@@ -10,6 +10,14 @@ pub struct Request {
     pub shut: Vec<u16>,
 }
 
+// What the words so far leave to follow.
+#[derive(Clone, Copy)]
+enum Due {
+    Option,
+    Closure,
+    OptionOrClosure,
+}
+
 impl Request {
     // Reads the arguments: PLAN.log [--turned] [--shut CLOSURE..], the two options in either order.
     pub(crate) fn read(heap: Global, words: &[String]) -> Result<Request, Stop> {
@@ -20,46 +28,36 @@ impl Request {
             return Err(Stop::Usage);
         }
         let mut request = Request {
-            path: String::from_str(heap, path.as_str())?,
+            path: path.clone()?,
             turned: false,
             shut: Vec::new(heap),
         };
-        // closures may follow, and one must
-        let mut shutting = false;
-        let mut wanting = false;
+        let mut due = Due::Option;
         for word in options {
-            match word.as_str() {
-                "--turned" if !wanting => {
+            due = match (word.as_str(), due) {
+                ("--turned", Due::Option | Due::OptionOrClosure) => {
                     request.turned = true;
-                    shutting = false;
+                    Due::Option
                 }
-                "--shut" if !wanting => {
-                    shutting = true;
-                    wanting = true;
-                }
-                number if shutting => {
+                ("--shut", Due::Option | Due::OptionOrClosure) => Due::Closure,
+                (number, Due::Closure | Due::OptionOrClosure) => {
                     request.shut.push(closure(number)?)?;
-                    wanting = false;
+                    Due::OptionOrClosure
                 }
                 _ => return Err(Stop::Usage),
-            }
+            };
         }
-        if wanting {
-            return Err(Stop::Usage);
+        match due {
+            Due::Closure => Err(Stop::Usage),
+            _ => Ok(request),
         }
-        Ok(request)
     }
 }
 
 // The number that a word of digits is. One that is too large becomes 65,535, which is no closure either.
 fn closure(word: &str) -> Result<u16, Stop> {
-    if word.is_empty() {
+    if word.is_empty() || !word.bytes().all(|digit| digit.is_ascii_digit()) {
         return Err(Stop::Usage);
-    }
-    for digit in word.bytes() {
-        if !digit.is_ascii_digit() {
-            return Err(Stop::Usage);
-        }
     }
     Ok(word.parse::<u16>().unwrap_or(u16::MAX))
 }

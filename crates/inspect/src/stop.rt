@@ -1,59 +1,31 @@
 // Why the program stops early, and how it says so.
 use books::fault::Fault;
-use std::alloc::{AllocError, AllocFailed};
+use std::alloc::AllocError;
 use std::{fmt, io};
+use thiserror::Error;
 
-#[derive(Drop)]
+#[derive(Debug, Drop, Error)]
 pub enum Stop {
     // the arguments are not a path and options
+    #[error("usage: inspect PLAN.log [--turned] [--shut CLOSURE..]")]
     Usage,
-    // the file at this path cannot be read
+    // the file at this path
+    #[error("refused\n{0} cannot be read")]
     Unreadable(String),
-    // the log, or a closure that is to be shut, is refused
-    Refused(Fault),
-    NoMemory,
-    // the output cannot be written
-    NoOutput,
+    // the log, or a closure that is to be shut
+    #[error(fmt = refused)]
+    Refused(#[from] Fault),
+    #[error("there is no memory")]
+    NoMemory(#[from(alloc)] AllocError),
+    #[error("the output cannot be written")]
+    NoOutput(#[from] io::Error),
 }
 
-impl From<Fault> for Stop {
-    fn from(fault: Fault) -> Stop {
-        Stop::Refused(fault)
-    }
-}
-
-impl From<io::Error> for Stop {
-    fn from(_: io::Error) -> Stop {
-        Stop::NoOutput
-    }
-}
-
-impl From<AllocError> for Stop {
-    fn from(_: AllocError) -> Stop {
-        Stop::NoMemory
-    }
-}
-
-impl<T: Drop> From<AllocFailed<T>> for Stop {
-    fn from(_: AllocFailed<T>) -> Stop {
-        Stop::NoMemory
-    }
-}
-
-impl fmt::Display for Stop {
-    fn fmt<W: fmt::Write>(&self, f: &mut fmt::Formatter<W>) -> fmt::Result {
-        match self {
-            Stop::Usage => write!(f, "usage: inspect PLAN.log [--turned] [--shut CLOSURE..]"),
-            Stop::Unreadable(path) => write!(f, "refused\n{path} cannot be read"),
-            Stop::Refused(fault) => {
-                let number = fault.number();
-                let place = fault.place();
-                write!(f, "refused {number} {place}\n{fault}")
-            }
-            Stop::NoMemory => write!(f, "there is no memory"),
-            Stop::NoOutput => write!(f, "the output cannot be written"),
-        }
-    }
+// The number and the place of a refusal, and its condition below.
+fn refused<W: fmt::Write>(fault: &Fault, f: &mut fmt::Formatter<W>) -> fmt::Result {
+    let number = fault.number();
+    let place = fault.place();
+    write!(f, "refused {number} {place}\n{fault}")
 }
 
 #[cfg(test)]

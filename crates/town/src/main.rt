@@ -3,20 +3,34 @@
 
 mod plan;
 
-use anyhow::anyhow;
+use anyhow::bail;
 use logs::log::Log;
 use logs::write::write_and_open;
-use std::{env, fs};
+use std::{env, fmt, fs};
 
 // What the file was before.
-fn stood_before(rt: &HostRuntime, path: &str, bytes: &[u8]) -> &'static str {
-    let Ok(old) = fs::read(rt, path) else {
-        return "new";
-    };
-    if old.as_slice() == bytes {
-        "the same before"
-    } else {
-        "another before"
+#[derive(Clone, Copy)]
+enum Before {
+    New,
+    Same,
+    Another,
+}
+
+impl fmt::Display for Before {
+    fn fmt<W: fmt::Write>(&self, f: &mut fmt::Formatter<W>) -> fmt::Result {
+        f.write_str(match self {
+            Before::New => "new",
+            Before::Same => "the same before",
+            Before::Another => "another before",
+        })
+    }
+}
+
+fn stood_before(rt: &HostRuntime, path: &str, bytes: &[u8]) -> Before {
+    match fs::read(rt, path) {
+        Err(_) => Before::New,
+        Ok(old) if old.as_slice() == bytes => Before::Same,
+        Ok(_) => Before::Another,
     }
 }
 
@@ -24,15 +38,15 @@ fn run(rt: &HostRuntime) -> anyhow::Result<()> {
     let mut args = env::args(rt)?;
     let _ = args.next();
     let (Some(path), None) = (args.next(), args.next()) else {
-        return Err(anyhow!("usage: town FILE"));
+        bail!("usage: town FILE");
     };
     let mut log = Log::new();
     let mut buffer = [0; 1024];
     let Ok(len) = write_and_open(&mut log, plan::CLOSURES, &plan::spans(), &mut buffer) else {
-        return Err(anyhow!("the plan is refused"));
+        bail!("the plan is refused");
     };
     let Some(bytes) = buffer.get(0..len) else {
-        return Err(anyhow!("the log is longer than its buffer"));
+        bail!("the log is longer than its buffer");
     };
     let before = stood_before(rt, path.as_str(), bytes);
     fs::write(rt, path.as_str(), bytes)?;
