@@ -1,15 +1,24 @@
 -- Adjacency lists that are laid out closure by closure and slot by slot.
-use Rattle.std.proofs.Common.{◌≡◌, ℕ, zero, suc, ◌+◌, ◌<◌, ◌≤◌, List, [], ◌∷◌, ◌++◌, length, Some, Option, Ok, Err, Result, IsOk, OnOk, ◌↔◌, sym, ap, ◌∙◌, subst, ⊎_elim, arith}
+use Rattle.std.proofs.Common.{◌≡◌, ℕ, zero, suc, ◌+◌, ◌<◌, ◌≤◌, List, [], ◌∷◌, ◌++◌, length, Some, Option, Ok, Err, Result, IsOk, OnErr, OnOk, ◌↔◌, sym, refl, ap, ◌∙◌, subst, ⊎_elim, arith}
 use Rattle.std.proofs.lemmas.List.{append_assoc, append-nil, length-append}
 use Rattle.std.proofs.lemmas.Bool.{cases_eq}
 use Rattle.books.specs.declared.stored.Adjacency.{Adjacency}
-use Rattle.books.specs.Adjacent.{Bare, Grown, Lacking, Laid, Pushed, filled, listing, slots_below}
+use Rattle.books.specs.Adjacent.{Bare, Beside, Grown, Lacking, Laid, Pushed, filled, listing, slots_below}
 use Rattle.books.proofs.Laid.{listed_past, rows_below}
 
 -- what an answer brings that is no refusal
 brought : {X E : Type 0} (r : Result X E) (P : Type 0) → IsOk r → OnOk r P → P
 brought (Ok x) P o p = p
 brought (Err e) P o p = cc
+
+-- a push changes the slots of the last closure alone
+pub beside_self : (a : Adjacency) → Beside a a
+beside_self a = record { size = refl; others = λ u n. refl }
+
+pub beside_pushed : {X E : Type 0} (v : ℕ) (a b c : Adjacency) (r : Result X E) → Beside a b → OnOk r (Pushed v b c) → OnErr r (c ≡ b) → Beside a c
+beside_pushed v a b c (Ok x) d o e =
+    record { size = o.size ∙ d.size; others = λ u n. o.others u (λ q. n (sym d.size ∙ q)) ∙ d.others u n }
+beside_pushed v a b c (Err f) d o e = subst (Beside a) (sym e) d
 
 module _ (row : ℕ → List (Option ℕ)) where
   -- fewer closures have at most as many slots

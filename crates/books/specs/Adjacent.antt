@@ -35,6 +35,11 @@ pub record Pushed (v : ℕ) (a b : Adjacency) : Type 0 where
   pub others : (u : ℕ) → ((listing a).size ≢ suc u) → (listing b).slots u ≡ (listing a).slots u
   pub one : filled b ≡ filled a + 1
 
+-- b has the closures of a, and each but the last has its slots
+pub record Beside (a b : Adjacency) : Type 0 where
+  pub size : (listing b).size ≡ (listing a).size
+  pub others : (u : ℕ) → ((listing a).size ≢ suc u) → (listing b).slots u ≡ (listing a).slots u
+
 -- a has n closures, and each has the slots of its row
 pub record Laid (row : ℕ → List (Option ℕ)) (n : ℕ) (a : Adjacency) : Type 0 where
   pub size : (listing a).size ≡ n

@@ -1,5 +1,5 @@
 // Listings that keep the rules.
-ghost use Rattle.std.specs.Prelude.{◌≡◌, ◌≤◌};
+ghost use Rattle.std.specs.Prelude.{◌≡◌, ◌≤◌, []};
 ghost use Rattle.rows.specs.Rules.{Ordered};
 ghost use Rattle.rows.specs.Slots.{Mirrors, slots_of};
 
@@ -18,7 +18,8 @@ pub(crate) struct Orderly<'a> {
 impl<'a> Orderly<'a> {
     // The ends of the slots of a closure: none past the last closure.
     pub(crate) fn slots(self, u: u16) -> &'a [u16]
-        ensures { result.now ≡ slots_of self.entry.listed u }
+        ensures slots { result.now ≡ slots_of self.entry.listed u }
+        ensures none { self.entry.n ≤ u → result.now ≡ [] }
     {
         if u >= self.n {
             return &[];

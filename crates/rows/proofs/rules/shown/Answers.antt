@@ -8,7 +8,7 @@ use Rattle.rows.proofs.rules.shown.Goals as goal
 pub slots-preserved : goal.slots-preserved
 slots-preserved c =
     below_more _ c.slots.v-index c.slots.invariant
-    (subst (λ xs. IsTrue (holds (map Some xs) c.loop-u.u)) c.slots-w-items.ensures (holds_at c.slots-w-items.result.now c.loop-w.w-index c.loop-u.u c.loop-w-test.true c.if-w-u.true))
+    (subst (λ xs. IsTrue (holds (map Some xs) c.loop-u.u)) c.slots-w-items.ensures.slots (holds_at c.slots-w-items.result.now c.loop-w.w-index c.loop-u.u c.loop-w-test.true c.if-w-u.true))
 
 pub returns-in-slots : goal.returns-in-slots
 returns-in-slots c =
@@ -16,8 +16,8 @@ returns-in-slots c =
     let is = holds_at c.slots-v-items.result.now c.slots.v-index v c.slots-test.true refl in (
       λ t. absurd (false≢true t),
       λ m.
-          let back = m c.loop-u.u v (subst (λ xs. IsTrue (holds (map Some xs) v)) c.slots-v-items.ensures is) in
-          let p = held_at c.slots-w-items.result.now c.loop-u.u (subst (λ xs. IsTrue (holds (map Some xs) c.loop-u.u)) (sym c.slots-w-items.ensures) back) in
+          let back = m c.loop-u.u v (subst (λ xs. IsTrue (holds (map Some xs) v)) c.slots-v-items.ensures.slots is) in
+          let p = held_at c.slots-w-items.result.now c.loop-u.u (subst (λ xs. IsTrue (holds (map Some xs) c.loop-u.u)) (sym c.slots-w-items.ensures.slots) back) in
           absurd (c.loop-w.invariant p.0 (omega (arith, p.1)) p.2),
     )
 
@@ -25,7 +25,7 @@ pub loop-u-preserved : goal.loop-u-preserved
 loop-u-preserved c =
     below_more _ c.loop-u.u c.loop-u.invariant
     (λ v t.
-    let p = held_at c.slots-v-items.result.now v (subst (λ xs. IsTrue (holds (map Some xs) v)) (sym c.slots-v-items.ensures) t) in
+    let p = held_at c.slots-v-items.result.now v (subst (λ xs. IsTrue (holds (map Some xs) v)) (sym c.slots-v-items.ensures.slots) t) in
     subst (λ x. IsTrue (holds (row_of c.args.there.listed x) c.loop-u.u)) p.2
     (c.slots.invariant p.0 (omega (arith, p.1))))
 

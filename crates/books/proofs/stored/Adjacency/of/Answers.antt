@@ -6,7 +6,7 @@ use Rattle.books.proofs.stored.Adjacency.of.Goals as goal
 pub loop-u-init : goal.loop-u-init
 loop-u-init g c =
     let s = c.args.source.now in
-    c.fill.ensures (g.met.S.Source.some s) (begun (g.S.Source.listing s).slots _ c.new-lists.ensures)
+    c.fill.ensures.fills (g.met.S.Source.some s) (begun (g.S.Source.listing s).slots _ c.new-lists.ensures)
 
 pub loop-u-preserved : goal.loop-u-preserved
 loop-u-preserved g c =
@@ -15,7 +15,7 @@ loop-u-preserved g c =
     let end = c.closures-u-end.ensures in
     let e : suc c.loop-u.u ≡ c.loop-u.u + 1 = omega arith in
     subst (λ k. Laid l.slots k c.fill-in-loop-u.new.lists) e
-    (c.fill-in-loop-u.ensures (omega arith) (grown l.slots c.loop-u.u c.loop-u.lists c.grow.new.self c.grow.result c.loop-u.invariant (omega arith) c.grow.ensures.answer c.grow.ensures.grows))
+    (c.fill-in-loop-u.ensures.fills (omega arith) (grown l.slots c.loop-u.u c.loop-u.lists c.grow.new.self c.grow.result c.loop-u.invariant (omega arith) c.grow.ensures.answer c.grow.ensures.grows))
 
 pub returns : goal.returns
 returns g c =

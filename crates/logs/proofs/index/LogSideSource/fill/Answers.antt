@@ -1,5 +1,5 @@
 use Rattle.std.proofs.Common.{suc, ◌<◌, map, Some, ap, ◌∙◌, arith}
-use Rattle.books.proofs.Laying.{ended, pushed}
+use Rattle.books.proofs.Laying.{beside_pushed, beside_self, ended, pushed}
 use Rattle.logs.specs.Opening.{end_at}
 use Rattle.logs.proofs.Back.{judged}
 use Rattle.logs.proofs.Canon.{reach}
@@ -12,6 +12,7 @@ loop-j-init c =
     let log = s.tested.log in
     let u : c.args.u < log.header.n = omega arith in (
       follow_start log.bytes.now log.header.n log.header.m s.side c.args.u (judged s.tested) u c.head_place-place.result c.head_place-place.ensures,
+      beside_self _,
       λ x. rw (rest_all log.bytes.now log.header.n log.header.m s.side c.args.u (judged s.tested) u c.head_place-place.result c.head_place-place.ensures) x,
     )
 
@@ -40,14 +41,15 @@ loop-j-preserved c =
     let at = c.end_place.ensures ∙ ap (λ t. end_at log.header.n t c.in-Some.j) c.other.ensures in
     let few = slots_few log.bytes.now log.header.n s.side log.header.m (suc c.args.u) (judged s.tested) (omega arith) in (
       follow_on log.bytes.now log.header.n log.header.m s.side c.args.u (judged s.tested) c.loop-j.place c.in-Some.j c.loop-j.invariant.0 c.in-Some.ensures _ c.next_place-place.ensures,
+      beside_pushed _ _ _ _ _ c.loop-j.invariant.1 c.push.ensures.pushes c.push.ensures.keeps,
       λ x.
-          pushed _ _ _ _ _ _ _ _ (c.loop-j.invariant.1 x)
+          pushed _ _ _ _ _ _ _ _ (c.loop-j.invariant.2 x)
           (rest_next log.bytes.now log.header.n log.header.m s.side c.args.u (judged s.tested) c.loop-j.place c.in-Some.j c.loop-j.invariant.0 c.in-Some.ensures _ c.next_place-place.ensures _ _ at c.word_at-far.ensures)
           few c.push.ensures.answer c.push.ensures.pushes,
     )
 
-pub returns : goal.returns
-returns c =
+pub returns-clause-fills : goal.returns-clause-fills
+returns-clause-fills c =
     let s = c.args.self.now in
     let log = s.tested.log in
-    λ h x. ended _ _ _ _ (c.loop-j.invariant.1 x) (ap (λ k. map Some (reach log.bytes.now log.header.n s.side c.args.u k)) c.in_default.ensures)
+    λ h x. ended _ _ _ _ (c.loop-j.invariant.2 x) (ap (λ k. map Some (reach log.bytes.now log.header.n s.side c.args.u k)) c.in_default.ensures)

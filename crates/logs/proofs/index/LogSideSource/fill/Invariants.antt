@@ -1,4 +1,4 @@
-use Rattle.books.specs.Adjacent.{Lacking}
+use Rattle.books.specs.Adjacent.{Beside, Lacking}
 use Rattle.logs.specs.History.{slots_on}
 use Rattle.logs.specs.Opening.{spans_at}
 use Rattle.logs.specs.Words.{word}
@@ -10,6 +10,7 @@ abbrev pub invariant-loop-j : goal.invariant-loop-j
 invariant-loop-j l =
     let row = slots_on l.self.side (spans_at l.bytes l.header.n l.header.m) in
     Following l.bytes l.header.n l.header.m l.self.side l.u l.place
+    × Beside l.initial.lists l.lists
     × (Lacking row l.u (row l.u) l.initial.lists → Lacking row l.u (rest l.bytes l.header.n l.header.m l.self.side l.u l.place) l.lists)
 
 abbrev pub decreases-loop-j : goal.decreases-loop-j
