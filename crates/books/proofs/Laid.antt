@@ -1,15 +1,15 @@
 -- Adjacency lists in their tables: how slots are read, and how a closure or a slot is added.
-use Rattle.std.proofs.Common.{◌≡◌, Bor, ℕ, zero, suc, ◌+◌, ◌-◌, ◌<◌, ◌≤◌, T, List, [], ◌∷◌, ◌++◌, map, length, get_or, drop, Some, None, Option, IsSome, sym, refl, ap, ◌∙◌, ⊎_elim, arith}
-use Rattle.std.specs.Option.{option_copied, option_to_list}
+use Rattle.std.proofs.Common.{◌≡◌, Bor, ℕ, zero, suc, ◌+◌, ◌-◌, ◌<◌, ◌≤◌, T, List, [], ◌∷◌, ◌++◌, map, length, get_or, set, take, drop, Some, None, Option, sym, refl, ap, ◌∙◌, ⊎_elim, arith}
+use Rattle.std.specs.Option.{option_copied}
 use Rattle.std.specs.Prelude.{slice_get}
 use Rattle.std.specs.Slice.{IsItemAt}
 use Rattle.std.proofs.lemmas.Option.{slice_get_past, slice_get_read}
-use Rattle.std.specs.List.{between}
-use Rattle.std.proofs.lemmas.List.{get_or_past, get_or_append_left, get_or-append_right, get_or_default, length-append, length-map, map-append, take-append-le}
-use Rattle.std.proofs.Math.Seq.{get_or-append_seam}
+use Rattle.std.specs.List.{between, refill}
+use Rattle.std.proofs.lemmas.List.{get_or_past, get_or_append_left, get_or-append_right, get_or_default, length-append, length-map, length-set, map-append, take-append-le}
+use Rattle.std.proofs.Math.Seq.{get_or-append_seam, take-length, take-suc, take-suc-set}
 use Rattle.std.proofs.lemmas.List.Edits.{length-between, between_none, between_more}
 use Rattle.std.proofs.lemmas.Slice.{between_is}
-use Rattle.std.proofs.lemmas.Bool.{cases_eq, cases_lt, false≢true}
+use Rattle.std.proofs.lemmas.Bool.{cases_eq, cases_lt}
 use Rattle.books.specs.Listing.{Sound, holds, slot}
 use Rattle.books.specs.declared.stored.Adjacency.{Adjacency}
 use Rattle.books.specs.Adjacent.{Bare, Grown, Pushed, filled, listing, slots_below}
@@ -94,10 +94,16 @@ filled_is a =
     slots_end (cut a.starts.items (length a.ends.items)) a.ends.items a.ascends.0 n (λ u i. ((a.ascends.1 u).0, (a.ascends.1 (suc u)).1))
     ∙ cut_past a n (omega arith)
 
--- what a pop takes off the end
-pub popped : (xs front : List ℕ) (r : Option ℕ) → xs ≡ front ++ option_to_list r → IsSome r → (x : ℕ) × (xs ≡ front ++ x ∷ [])
-popped xs front None e s = absurd (false≢true s)
-popped xs front (Some x) e s = (x, e)
+-- the last of the starts, behind those before it
+pub last_of : (xs : List ℕ) (i : ℕ) → length xs ≡ suc i → xs ≡ take i xs ++ get_or xs i 0 ∷ []
+last_of xs i l = sym (take-length xs) ∙ ap (λ n. take n xs) l ∙ take-suc xs i 0 (omega arith)
+
+-- another last start is put in its place
+pub put_last : (xs ws : List ℕ) (i j y z : ℕ) → length xs ≡ suc i → ws ≡ xs → j ≡ i → z ≡ y → refill (length xs) xs (set ws j z) ≡ take i xs ++ y ∷ []
+put_last xs ws i j y z l w e q =
+    let m = length-set xs i y in
+    rw (w, e, q)
+    (take-append-le (length xs) (set xs i y) (drop (length (set xs i y)) xs) (omega arith) ∙ ap (λ n. take n (set xs i y)) l ∙ take-suc-set xs i y (omega arith))
 
 -- ---- no slots
 

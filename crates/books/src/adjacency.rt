@@ -9,7 +9,7 @@ use arrayvec::ArrayVec;
 use thiserror::Error;
 
 // The lists have as many closures or slots as they can.
-#[derive(Clone, Copy, Debug, Error)]
+#[derive(Clone, Copy, PartialEq, Eq, Debug, Error)]
 #[error("the lists are full")]
 pub struct Full;
 
@@ -87,9 +87,8 @@ impl Adjacency {
         }
         self.ends.push(v);
         // the last start moves with the end
-        let moved = self.ends.len() as u16;
-        self.starts.pop();
-        self.starts.push(moved);
+        let last = self.starts.len() - 1;
+        self.starts[last] = self.ends.len() as u16;
         Ok(())
     }
 
