@@ -1,11 +1,11 @@
 -- What the ranges of the words say of heads, ends and next records.
-use Rattle.std.proofs.Common.{◌≡◌, ℕ, zero, suc, ◌+◌, ◌-◌, ◌*◌, ◌/◌, ◌%◌, ◌<◌, ◌≤◌, List, sym, refl, ap, ◌∙◌, subst, ⊎_elim, arith}
+use Rattle.std.proofs.Common.{◌≡◌, ℕ, zero, suc, ◌+◌, ◌-◌, ◌*◌, ◌/◌, ◌%◌, ◌<◌, ◌≤◌, List, Some, None, Option, MatchOption, sym, refl, ap, ◌∙◌, subst, ⊎_elim, arith}
 use Rattle.std.proofs.lemmas.Bool.{cases_lt, cond-true, cond-false, lt-ltb, le-ltb}
 use Rattle.logs.specs.declared.side.Side.{Side}
 use Rattle.logs.specs.declared.side.Side.TheVariants.{Leaving, Arriving}
 use Rattle.logs.specs.Sides.{column}
 use Rattle.logs.specs.Words.{word}
-use Rattle.logs.specs.Opening.{Ranged, bound, head_at, end_at, next_at}
+use Rattle.logs.specs.Opening.{Below, Outside, Ranged, bound, head_at, end_at, next_at}
 use Rattle.logs.specs.Placing.{column_few}
 
 bound_head : (n m u c : ℕ) → u < n → c < 2 → bound n m (2 * u + c) ≡ m + 1
@@ -22,6 +22,12 @@ bound_next n m j c i =
     cond-false _ _ _ (le-ltb (2 * n + (4 * j + (2 + c))) (2 * n) (omega arith))
     ∙ cond-false _ _ _ (le-ltb ((2 * n + (4 * j + (2 + c)) - 2 * n) % 4) 2 (omega arith))
     ∙ ap (λ x. x + 1) t
+
+-- what a search for a word out of its range finds, where the words before it are below their bounds
+pub outside_from : (bytes : List ℕ) (n m from to : ℕ) (r : Option ℕ) → to ≡ 2 * n + 4 * m → from ≤ to → Below bytes n m 0 from → MatchOption r (Below bytes n m from to) (λ k. (from ≤ k) × (k < to) × (bound n m k ≤ word bytes (4 + 2 * k)) × Below bytes n m from k) → MatchOption r (Ranged bytes n m) (λ k. Outside bytes n m (4 + 2 * k))
+outside_from bytes n m from to None e l b f = λ k h. ⊎_elim (λ (i : k < from). b k (omega arith) i) (λ (i : from ≤ k). f k i (omega arith)) (cases_lt k from)
+outside_from bytes n m from to (Some k) e l b f =
+    record { index = k; stands = refl; within = omega (arith, f.1); high = f.2; first = λ i h. ⊎_elim (λ (s : i < from). b i (omega arith) s) (λ (s : from ≤ i). f.3 i s h) (cases_lt i from) }
 
 -- the words of ranged bytes are below their bounds
 pub head_below : (bytes : List ℕ) (n m : ℕ) (s : Side) (u : ℕ) → Ranged bytes n m → u < n → word bytes (head_at s u) < m + 1

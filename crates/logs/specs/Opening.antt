@@ -30,6 +30,10 @@ bound n m k = cond (nat_lt k (2 * n)) (m + 1) (cond (nat_lt ((k - 2 * n) % 4) 2)
 abbrev pub Ranged : List ℕ → ℕ → ℕ → Type 0
 Ranged bytes n m = (k : ℕ) → k < 2 * n + 4 * m → word bytes (4 + 2 * k) < bound n m k
 
+-- every word from one on up to another is
+abbrev pub Below : List ℕ → ℕ → ℕ → ℕ → ℕ → Type 0
+Below bytes n m from to = (k : ℕ) → from ≤ k → k < to → word bytes (4 + 2 * k) < bound n m k
+
 -- the word at a place is the first that is not
 pub record Outside (bytes : List ℕ) (n m place : ℕ) : Type 0 where
   pub index : ℕ

@@ -81,9 +81,13 @@ laid_slots s h n a d t u =
 
 -- ---- the records
 
-pub recorded_none : (h : List Span) → recorded h 0 ≡ None
-recorded_none [] = refl
-recorded_none (x ∷ h) = cond-false _ _ _ (ne_eqb 0 (suc (length h)) (λ e. omega arith)) ∙ recorded_none h
+-- no record has the number 0, or one past the last
+pub recorded_none : (h : List Span) (k : ℕ) → (k ≡ 0) ⊎ (length h < k) → recorded h k ≡ None
+recorded_none [] k o = refl
+recorded_none (x ∷ h) k o =
+    let no : k ≡ suc (length h) → ⊥ = λ e. ⊎_elim (λ (z : k ≡ 0). omega arith) (λ (m : suc (length h) < k). omega arith) o in
+    let less : (k ≡ 0) ⊎ (length h < k) = ⊎_elim (λ (z : k ≡ 0). inl z) (λ (m : suc (length h) < k). inr (omega arith)) o in
+    cond-false _ _ _ (ne_eqb k (suc (length h)) no) ∙ recorded_none h k less
 
 get_last : (xs : List Span) (x : Span) → slice_get (xs ++ x ∷ []) (length xs) ≡ Some x
 get_last [] x = refl

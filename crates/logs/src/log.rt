@@ -33,12 +33,10 @@ impl Log {
         ensures decided { Decided bytes.now }
     {
         let tested = Tested::judge(bytes)?;
-        let spans = tested.read_spans();
-        *self = Log {
-            spans,
-            out: Adjacency::of(&tested.on(Side::Leaving)),
-            into: Adjacency::of(&tested.on(Side::Arriving)),
-        };
+        // one by one, so that the tables do not lie on the stack a second time
+        self.spans = tested.read_spans();
+        self.out = Adjacency::of(&tested.on(Side::Leaving));
+        self.into = Adjacency::of(&tested.on(Side::Arriving));
         Ok(())
     }
 

@@ -1,8 +1,8 @@
 // The tests that bytes pass before they are a log. What passes a test has a type of its own, which keeps what the test found.
-ghost use Rattle.std.specs.Prelude.{◌≡◌, ℕ, nat_lt, ◌+◌, ◌*◌, ◌<◌, ◌≤◌, true, suc, List, length, IfOk, MatchOption, MatchResult};
+ghost use Rattle.std.specs.Prelude.{◌≡◌, ℕ, nat_lt, IsTrue, ◌+◌, ◌*◌, ◌<◌, ◌≤◌, true, suc, List, length, IfOk, MatchOption, MatchResult};
 ghost use Rattle.books.specs.Faults.{numbered, placed, told};
 ghost use Rattle.logs.specs.History.{encode, inside, size};
-ghost use Rattle.logs.specs.Opening.{Accepted, Chain, Chains, Judged, Outside, Ranged, Refused, Strayed, Strays, bound, head_at, headed, spans_at};
+ghost use Rattle.logs.specs.Opening.{Accepted, Below, Chain, Chains, Judged, Outside, Ranged, Refused, Strayed, Strays, bound, head_at, headed, spans_at};
 ghost use Rattle.logs.specs.Words.{word};
 
 use super::header::Header;
@@ -70,12 +70,53 @@ impl<'a> Measured<'a> {
         usize::from(word_at(self.bytes, 4 + 2 * k)) < self.header.limit(k)
     }
 
+    // Tells whether the four words of the record j are below their limits.
+    fn holds_record(self, j: u16) -> bool
+        requires { j < self.header.m }
+        ensures { let log = self.entry in IsTrue result → Below log.bytes.now log.header.n log.header.m (2 * log.header.n + 4 * j) (2 * log.header.n + 4 * j + 4) }
+    {
+        let Measured { bytes, header } = self;
+        let place = header.record_place(j);
+        word_at(bytes, place) < header.n
+            && word_at(bytes, place + 2) < header.n
+            && word_at(bytes, place + 4) <= j
+            && word_at(bytes, place + 6) <= j
+    }
+
+    // How many records, from the first on, have all words below their limits.
+    fn records_held(self) -> u16
+        ensures few { result ≤ self.entry.header.m }
+        ensures held { let log = self.entry in Below log.bytes.now log.header.n log.header.m (2 * log.header.n) (2 * log.header.n + 4 * result) }
+    {
+        for j in 0..self.header.m {
+            if !self.holds_record(j) {
+                return j;
+            }
+        }
+        self.header.m
+    }
+
+    // The first word after the first two that is not below its limit. Records are passed whole, as long as they hold.
+    fn first_outside(self) -> Option<usize>
+        ensures { let log = self.entry in MatchOption result (Ranged log.bytes.now log.header.n log.header.m)
+            (λ k. Outside log.bytes.now log.header.n log.header.m (4 + 2 * k)) }
+    {
+        let heads = 2 * usize::from(self.header.n);
+        match (0..heads).find(|k| !self.below_limit(*k)) {
+            Some(k) => Some(k),
+            None => {
+                let held = heads + 4 * usize::from(self.records_held());
+                (held..self.header.words()).find(|k| !self.below_limit(*k))
+            }
+        }
+    }
+
     // Finds the first word that is out of its range.
     fn ranges(self) -> Result<Bounded<'a>, Fault>
         ensures { let log = self.entry in MatchResult result (λ bounded. bounded.log ≡ log)
             (λ e. (numbered e ≡ 5) × Outside log.bytes.now log.header.n log.header.m (placed e)) }
     {
-        match (0..self.header.words()).find(|k| !self.below_limit(*k)) {
+        match self.first_outside() {
             Some(k) => Err(Fault::WordRange { place: 4 + 2 * k }),
             None => Ok(Bounded { log: self }),
         }

@@ -7,10 +7,10 @@ use Rattle.logs.proofs.stored.Log.open.Goals as goal
 
 pub invariant_of-self : goal.invariant_of-self
 invariant_of-self c =
-    let y : Made c.args.bytes.now c.in_ok-tested.tested (reverse c.read_spans-spans.result.items) c.of.result c.of-2.result =
-    record { same = c.in_ok-tested.ensures.same; history = c.read_spans-spans.ensures.history; leaving = on_side c.in_ok-tested.tested Leaving c.on.result c.of.result c.on.ensures.log c.on.ensures.side c.of.ensures; arriving = on_side c.in_ok-tested.tested Arriving c.on-2.result c.of-2.result c.on-2.ensures.log c.on-2.ensures.side c.of-2.ensures } in
+    let y : Made c.args.bytes.now c.in_ok-tested.tested (reverse c.read_spans-self.result.items) c.of-self.result c.of-self-2.result =
+    record { same = c.in_ok-tested.ensures.same; history = c.read_spans-self.ensures.history; leaving = on_side c.in_ok-tested.tested Leaving c.on.result c.of-self.result c.on.ensures.log c.on.ensures.side c.of-self.ensures; arriving = on_side c.in_ok-tested.tested Arriving c.on-2.result c.of-self-2.result c.on-2.ensures.log c.on-2.ensures.side c.of-self-2.ensures } in
     record {
-      few = (some _ _ _ _ _ y, few _ _ _ _ _ y, c.read_spans-spans.ensures.few);
+      few = (some _ _ _ _ _ y, few _ _ _ _ _ y, c.read_spans-self.ensures.few);
       level = level _ _ _ _ _ y;
       within = (accepts _ _ _ _ _ y).inside;
       leaves = leaves _ _ _ _ _ y;
@@ -26,8 +26,8 @@ returns-in_err-tested c =
 
 pub returns : goal.returns
 returns c =
-    let y : Made c.args.bytes.now c.in_ok-tested.tested (reverse c.read_spans-spans.result.items) c.of.result c.of-2.result =
-    record { same = c.in_ok-tested.ensures.same; history = c.read_spans-spans.ensures.history; leaving = on_side c.in_ok-tested.tested Leaving c.on.result c.of.result c.on.ensures.log c.on.ensures.side c.of.ensures; arriving = on_side c.in_ok-tested.tested Arriving c.on-2.result c.of-2.result c.on-2.ensures.log c.on-2.ensures.side c.of-2.ensures } in
+    let y : Made c.args.bytes.now c.in_ok-tested.tested (reverse c.read_spans-self.result.items) c.of-self.result c.of-self-2.result =
+    record { same = c.in_ok-tested.ensures.same; history = c.read_spans-self.ensures.history; leaving = on_side c.in_ok-tested.tested Leaving c.on.result c.of-self.result c.on.ensures.log c.on.ensures.side c.of-self.ensures; arriving = on_side c.in_ok-tested.tested Arriving c.on-2.result c.of-self-2.result c.on-2.ensures.log c.on-2.ensures.side c.of-self-2.ensures } in
     record {
       opens = λ n h a. (refl, only _ _ _ _ _ y n h a);
       verdict = accepts _ _ _ _ _ y;

@@ -1,4 +1,4 @@
-use Rattle.std.proofs.Common.{◌≡◌, suc, reverse, sym, ap, ◌∙◌, arith, rules}
+use Rattle.std.proofs.Common.{◌≡◌, suc, reverse, inl, refl, sym, ap, ◌∙◌, arith, rules}
 use Rattle.std.proofs.lemmas.List.{reverse-reverse}
 use Rattle.books.proofs.Laid.{copied_item}
 use Rattle.std.specs.List.{slice_get}
@@ -9,7 +9,7 @@ use Rattle.logs.proofs.stored.Log.record.Goals as goal
 pub returns-in_err-checked_sub : goal.returns-in_err-checked_sub
 returns-in_err-checked_sub c =
     let zero : c.args.number ≡ 0 = omega arith in
-    let none = recorded_none (reverse c.args.self.now.spans.items) in
+    let none = recorded_none (reverse c.args.self.now.spans.items) 0 (inl refl) in
     rw zero (search (rules, none))
 
 pub returns : goal.returns
