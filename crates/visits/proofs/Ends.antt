@@ -1,9 +1,8 @@
 -- How a visit begins, how it passes from one closure to the next, and what it has when it ends.
-use Rattle.std.proofs.Common.{◌≡◌, ℕ, suc, ◌+◌, ◌-◌, ◌<◌, ◌≤◌, T, List, map, length, replicate, slice_get, Some, None, Ok, Result, sym, ap, ◌∙◌, subst, ⊎_elim, arith, length-set, get_or-set_other, get_or-set_same, below_more}
+use Rattle.std.proofs.Common.{◌≡◌, ℕ, suc, ◌+◌, ◌-◌, ◌<◌, ◌≤◌, T, map, length, replicate, Ok, Result, sym, ap, ◌∙◌, subst, ⊎_elim, arith, length-set, get_or-set_other, get_or-set_same, below_more}
 use lib.ListN.{length-replicate}
 use Rattle.std.proofs.lemmas.List.{get_or-replicate}
-use Rattle.std.proofs.lemmas.Option.{get_or_from_slice_get, slice_get-get_or, slice_get_within}
-use Rattle.std.proofs.lemmas.Bool.{cases_eq, cases_lt, cond-true, lt-ltb}
+use Rattle.std.proofs.lemmas.Bool.{cases_eq, cond-true, lt-ltb}
 use Rattle.books.specs.declared.fault.Fault.{Fault}
 use Rattle.visits.specs.declared.visit.Visit.{Visit}
 use Rattle.std.proofs.lemmas.List.FromFn.{fill_by_all}
@@ -14,7 +13,7 @@ use Rattle.books.specs.Listing.{Listing, plan, holds}
 use Rattle.visits.specs.declared.search.Search.{Search}
 use Rattle.books.specs.Measures.{distance, out_depth}
 use Rattle.visits.specs.Visited.{visited, written}
-use Rattle.visits.specs.Going.{Going, Taken, opened, far, finished, found, place, stepped}
+use Rattle.visits.specs.Going.{Going, opened, far, finished, found, place}
 use Rattle.books.proofs.Counts.{others_set, others_none}
 use Rattle.visits.proofs.Looking.{Looking}
 use Rattle.visits.proofs.Steps.{all_found}
@@ -23,11 +22,10 @@ use Rattle.books.proofs.Depths.{depth_only}
 use Rattle.books.proofs.Distances.{chain_inside, distance_some, distance_none}
 
 -- all slots of u have been read
-pub looked_all : (l : Listing) {k head u d z : ℕ} {s : Search} → length (l.slots u) ≤ k → Looking (plan l) (l.slots u) k head u d z s → Going (plan l) s.head s
+pub looked_all : (l : Listing) {k head u d z : ℕ} {s : Search} → length (l.slots u) ≤ k → Looking (plan l) (l.slots u) k head u d z s → Going (plan l) (head + 1) s
 looked_all l {head = head} {u = u} {s = s} all o =
     let g = o.going in
-    subst (λ n. Going (plan l) n s) (sym o.taken)
-    (record {
+    record {
       long = g.long;
       few = g.few;
       begun = g.begun;
@@ -43,37 +41,7 @@ looked_all l {head = head} {u = u} {s = s} all o =
       looked =
           λ i v h. below_more (λ i. T (holds (l.slots (place s i)) v) → far s v ≤ suc (far s (place s i))) head (λ i h. g.looked i v h)
           (λ t. let r = holds_slot (l.slots u) v (subst (λ w. T (holds (l.slots w) v)) o.here t) in omega (arith, o.seen r.0 v (omega (arith, r.1)) r.2, o.next, ap (far s) o.here)) i h;
-    })
-
--- no closure is left in the queue
-pub none_left : (xs : List ℕ) (i : ℕ) → None ≡ slice_get xs i → length xs ≤ i
-none_left xs i e = ⊎_elim (λ h. let x = slice_get-get_or xs i 0 h in cc) (λ h. h) (cases_lt i (length xs))
-
--- the next closure is taken from the queue
-pub taken_next : {p : Plan} {u : ℕ} {s r : Search} → Going p s.head s → Some u ≡ slice_get s.queue.items s.head → r ≡ stepped s → Taken p u r
-taken_next {p} {u} {s} g e is =
-    subst (λ r. Taken p u r) (sym is)
-    (let back : s.head ≡ s.head + 1 - 1 = omega arith in
-    record {
-      some = omega arith;
-      going = subst (λ n. Going p n (stepped s)) back (record {
-        long = g.long;
-        few = g.few;
-        begun = g.begun;
-        behind = g.behind;
-        tally = g.tally;
-        outside = g.outside;
-        queued = g.queued;
-        soon = g.soon;
-        order = g.order;
-        near = g.near;
-        listed = g.listed;
-        chains = g.chains;
-        looked = g.looked;
-      });
-      early = omega (arith, slice_get_within s.queue.items s.head u (sym e));
-      here = subst (λ n. place s n ≡ u) back (get_or_from_slice_get s.queue.items s.head u 0 (sym e));
-    })
+    }
 
 module _ (p : Plan) (start : ℕ) (in' : start < p.size) (few : p.size ≤ 1024) where
   wide : start < length {A = ℕ} (replicate 1024 65535)

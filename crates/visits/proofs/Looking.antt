@@ -5,10 +5,9 @@ use Rattle.books.specs.Listing.{slot}
 use Rattle.visits.specs.declared.search.Search.{Search}
 use Rattle.visits.specs.Going.{Going, far, found, place}
 
--- the first k slots of u, which stands at place `head` and was taken last, have been read; d is one more than its distance, z the start
+-- the first k slots of u, which stands at place `head`, have been read; d is one more than its distance, z the start
 pub record Looking (p : Plan) (ss : List (Option ℕ)) (k head u d z : ℕ) (s : Search) : Type 0 where
   pub going : Going p head s
-  pub taken : s.head ≡ head + 1
   pub early : head < found s
   pub here : place s head ≡ u
   pub next : d ≡ far s u + 1

@@ -29,7 +29,7 @@ module _ (p : Plan) (ss : List (Option ℕ)) (k head u d z : ℕ) (s : Search) (
   free = room_left o.going v in' fresh
 
   after : Search
-  after = record { distances = set s.distances v d; queue = record { items = s.queue.items ++ v ∷ [] }; head = s.head }
+  after = record { distances = set s.distances v d; queue = record { items = s.queue.items ++ v ∷ [] } }
 
   count : found after ≡ found s + 1
   unfolding after
@@ -145,7 +145,6 @@ module _ (p : Plan) (ss : List (Option ℕ)) (k head u d z : ℕ) (s : Search) (
   found_looking =
       record {
         going = found_going;
-        taken = o.taken;
         early = fewer (omega (arith, o.early));
         here = spot head o.early ∙ o.here;
         next = d_is ∙ ap (λ n. n + 1) (sym (kept head o.early) ∙ ap (far after) (spot head o.early ∙ o.here));
@@ -162,7 +161,6 @@ read_more : {p : Plan} {ss : List (Option ℕ)} {k head u d z : ℕ} {s : Search
 read_more {ss = ss} {k = k} {d = d} {s = s} o new =
     record {
       going = o.going;
-      taken = o.taken;
       early = o.early;
       here = o.here;
       next = o.next;
@@ -190,6 +188,6 @@ pub noted_more : {p : Plan} {ss : List (Option ℕ)} {k head u d z : ℕ} {s m r
 unfolding after
 noted_more {p} {ss} {k} {head} {u} {d} {z} {s} v o e in' t at is =
     subst (λ r. Looking p ss (k + 1) head u d z r) (sym (at ∙ is))
-    (cond_both (eqb (far s v) 65535) (record { distances = set s.distances v d; queue = record { items = s.queue.items ++ v ∷ [] }; head = s.head }) s (λ r. Looking p ss (k + 1) head u d z r)
+    (cond_both (eqb (far s v) 65535) (record { distances = set s.distances v d; queue = record { items = s.queue.items ++ v ∷ [] } }) s (λ r. Looking p ss (k + 1) head u d z r)
     (λ q. let fresh = eqb-true (far s v) 65535 q in read_more (found_looking p ss k head u d z s o v fresh in' t) (λ w f. let x : w ≡ v = some_inj (sym f ∙ e) in subst (λ y. far (after p ss k head u d z s o v fresh in' t) y ≤ d) (sym x) (found_this p ss k head u d z s o v fresh in' t)))
     (λ q. read_more o (λ w f. let x : w ≡ v = some_inj (sym f ∙ e) in subst (λ y. far s y ≤ d) (sym x) (not_new o in' (eqb-false (far s v) 65535 q)))))

@@ -1,5 +1,5 @@
 -- What a visit keeps true while it runs.
-use Rattle.std.specs.Prelude.{◌≡◌, ℕ, suc, ◌+◌, ◌-◌, ◌<◌, ◌≤◌, cond, T, [], ◌∷◌, ◌++◌, length, replicate, ◌==◌, ◌≢◌, slice_index, slice_set}
+use Rattle.std.specs.Prelude.{◌≡◌, ℕ, suc, ◌-◌, ◌<◌, ◌≤◌, cond, T, [], ◌∷◌, ◌++◌, length, replicate, ◌==◌, ◌≢◌, slice_index, slice_set}
 use Rattle.books.specs.Counts.{others}
 use Rattle.books.specs.Plan.{Plan, Chain}
 use Rattle.visits.specs.declared.search.Search.{Search}
@@ -32,24 +32,13 @@ pub record Going (p : Plan) (head : ℕ) (s : Search) : Type 0 where
   pub chains : (v : ℕ) → v < 1024 → (far s v ≢ 65535) → Chain p (place s 0) v (far s v)
   pub looked : (i v : ℕ) → i < head → T (p.leads (place s i) v) → far s v ≤ suc (far s (place s i))
 
--- u was taken from the queue last, and is yet to be looked from
-pub record Taken (p : Plan) (u : ℕ) (s : Search) : Type 0 where
-  pub some : 0 < s.head
-  pub going : Going p (s.head - 1) s
-  pub early : s.head ≤ found s
-  pub here : place s (s.head - 1) ≡ u
-
 -- the state in which only `start` is found
 abbrev pub opened : ℕ → Search
-opened start = record { distances = slice_set (replicate 1024 65535) start 0; queue = record { items = start ∷ [] }; head = 0 }
-
--- the state after one closure more is taken from the queue
-abbrev pub stepped : Search → Search
-stepped s = record { distances = s.distances; queue = s.queue; head = s.head + 1 }
+opened start = record { distances = slice_set (replicate 1024 65535) start 0; queue = record { items = start ∷ [] } }
 
 -- the state after v is noted at distance d
 abbrev pub noted : Search → ℕ → ℕ → Search
-noted s v d = cond (far s v == 65535) (record { distances = slice_set s.distances v d; queue = record { items = s.queue.items ++ v ∷ [] }; head = s.head }) s
+noted s v d = cond (far s v == 65535) (record { distances = slice_set s.distances v d; queue = record { items = s.queue.items ++ v ∷ [] } }) s
 
 -- what a search that is over found: the closure found last is the farthest
 abbrev pub finished : Search → Visit

@@ -1,7 +1,7 @@
 // Breadth-first search, once for both directions.
-ghost use Rattle.std.specs.Prelude.{◌≡◌, ℕ, ◌<◌, IfNone, OnSome, slice_get};
+ghost use Rattle.std.specs.Prelude.{◌≡◌, ℕ, ◌+◌, ◌<◌};
 ghost use Rattle.books.specs.Listing.{plan};
-ghost use Rattle.visits.specs.Going.{Going, Taken, far, finished, found, noted, opened, place, stepped};
+ghost use Rattle.visits.specs.Going.{Going, far, finished, found, noted, opened, place};
 ghost use Rattle.visits.specs.Visited.{visited};
 
 use super::spans::Spans;
@@ -9,13 +9,11 @@ use super::visit::{FAR, Visit};
 use arrayvec::ArrayVec;
 use books::fault::Fault;
 
-// A search on its way: the distances so far, the closures found in the order in which they were found, and how many of them were
-// taken from this queue to be looked from.
+// A search on its way: the distances so far, and the closures found, in the order in which they were found.
 #[derive(Drop)]
 struct Search {
     distances: [u16; 1024],
     queue: ArrayVec<u16, 1024>,
-    head: usize,
 }
 
 impl Search {
@@ -28,22 +26,7 @@ impl Search {
         distances[usize::from(start)] = 0;
         let mut queue = ArrayVec::new();
         queue.push(start);
-        Search {
-            distances,
-            queue,
-            head: 0,
-        }
-    }
-
-    // The next closure of the queue, to be looked from.
-    fn next(&mut self) -> Option<u16>
-        ensures value { result ≡ slice_get self.old.queue.items self.old.head }
-        ensures some { OnSome result (self.new ≡ stepped self.old) }
-        ensures none { IfNone result (self.new ≡ self.old) }
-    {
-        let u = *self.queue.get(self.head)?;
-        self.head += 1;
-        Some(u)
+        Search { distances, queue }
     }
 
     // Notes that `v` lies at distance `d`, unless its distance is known.
@@ -59,13 +42,14 @@ impl Search {
         }
     }
 
-    // Notes the closures that a span leads to from `u`, the one taken last.
-    fn look<S: Spans>(&mut self, spans: &S, u: u16)
-        requires { Taken (plan (S.Spans.listing spans.now)) u self.old }
-        ensures going { Going (plan (S.Spans.listing spans.now)) self.new.head self.new }
-        ensures head { self.new.head ≡ self.old.head }
+    // Notes the closures that a span leads to from the one at place `head` of the queue.
+    fn look<S: Spans>(&mut self, spans: &S, head: usize)
+        requires early { head < found self.old }
+        requires going { Going (plan (S.Spans.listing spans.now)) head self.old }
+        ensures going { Going (plan (S.Spans.listing spans.now)) (head + 1) self.new }
         ensures start { place self.new 0 ≡ place self.old 0 }
     {
+        let u = self.queue[head];
         let d = self.distances[usize::from(u)] + 1;
         for k in 0..spans.slots(u) {
             if let Some(v) = spans.slot_at(u, k) {
@@ -96,8 +80,11 @@ pub(crate) fn visit<S: Spans>(spans: &S, start: u16) -> Result<Visit, Fault>
         return Err(Fault::NoClosure);
     }
     let mut search = Search::at(start);
-    while let Some(u) = search.next() {
-        search.look(spans, u);
+    // a local variable: as a field beside the arrays it would lie in memory, and a visit would take longer
+    let mut head = 0;
+    while head < search.queue.len() {
+        search.look(spans, head);
+        head += 1;
     }
     Ok(search.finish())
 }

@@ -45,6 +45,12 @@ impl Visit {
     pub fn farthest(&self) -> Option<u16>
         ensures { result ≡ first 1024 (λ v. nat_eq (slice_index self.now.distances v) self.now.depth) }
     {
-        (0..1024).find(|v| self.distances[usize::from(*v)] == self.depth)
+        // a plain loop: the compiler turns it into vector instructions, which it does not do for `find`
+        for v in 0..1024 {
+            if self.distances[usize::from(v)] == self.depth {
+                return Some(v);
+            }
+        }
+        None
     }
 }
